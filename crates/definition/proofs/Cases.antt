@@ -1,0 +1,53 @@
+-- A rule over a few bits, proved by one test that antt computes over all their cases; and an equation of lists by a test.
+-- Assumes nothing.
+use mathlib.Core.Path.{_≡_, refl, ap₂}
+use mathlib.Core.Bool.{Bool, true, false}
+use mathlib.Core.List.{List, [], _∷_}
+use Prim.Native.Nat.{ℕ, zero, suc, _<_}
+use native.Mathlib.Nat.{not-suc-le-zero, le-of-suc-le-suc}
+use lib.Dec.{T, eqb, eqb→eq}
+
+abbrev pub both : Bool → Bool → Bool
+both true b = b
+both false b = false
+
+pub both-left : (a b : Bool) → T (both a b) → T a
+both-left true b t = tt
+both-left false b t = t
+
+pub both-right : (a b : Bool) → T (both a b) → T b
+both-right true b t = t
+both-right false b t = absurd t
+
+-- a list of n bits
+pub data Bits : ℕ → List ℕ → Type 0 where
+  none : Bits 0 []
+  more : {b n : ℕ} {bs : List ℕ} → b < 2 → Bits n bs → Bits (suc n) (b ∷ bs)
+
+-- the test passes at each list of n bits
+abbrev pub everyBits : ℕ → (List ℕ → Bool) → Bool
+everyBits zero f = f []
+everyBits (suc n) f = both (everyBits n (λ bs. f (0 ∷ bs))) (everyBits n (λ bs. f (1 ∷ bs)))
+
+pub at-bits : {n : ℕ} {bs : List ℕ} (f : List ℕ → Bool) → T (everyBits n f) → Bits n bs → T (f bs)
+at-bits f t none = t
+at-bits f t (more {b = zero} {n = n} h r) =
+    at-bits (λ bs. f (0 ∷ bs)) (both-left (everyBits n (λ bs. f (0 ∷ bs))) (everyBits n (λ bs. f (1 ∷ bs))) t) r
+at-bits f t (more {b = suc zero} {n = n} h r) =
+    at-bits (λ bs. f (1 ∷ bs)) (both-right (everyBits n (λ bs. f (0 ∷ bs))) (everyBits n (λ bs. f (1 ∷ bs))) t) r
+at-bits f t (more {b = suc (suc b)} h r) = absurd (not-suc-le-zero (le-of-suc-le-suc (le-of-suc-le-suc h)))
+
+-- two lists of numbers are the same, as a test
+abbrev pub same : List ℕ → List ℕ → Bool
+same [] [] = true
+same [] (y ∷ ys) = false
+same (x ∷ xs) [] = false
+same (x ∷ xs) (y ∷ ys) = both (eqb x y) (same xs ys)
+
+pub same→eq : (xs ys : List ℕ) → T (same xs ys) → xs ≡ ys
+same→eq [] [] t = refl
+same→eq [] (y ∷ ys) t = absurd t
+same→eq (x ∷ xs) [] t = absurd t
+same→eq (x ∷ xs) (y ∷ ys) t =
+    ap₂ (λ (z : ℕ) (zs : List ℕ). z ∷ zs) (eqb→eq x y (both-left (eqb x y) (same xs ys) t))
+    (same→eq xs ys (both-right (eqb x y) (same xs ys) t))

@@ -1,0 +1,13 @@
+-- Laws of the definitions, which the crates above cite, and what the checker computes from the definitions as they stand.
+pub mod Cases
+pub mod Bits
+pub mod Word
+pub mod SubCrumb
+pub mod Xor
+pub mod Field
+pub mod Injection
+pub mod Constant
+pub mod Computed
+pub mod Vectors
+pub mod Sheet
+pub mod Examples

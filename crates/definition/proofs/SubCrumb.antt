@@ -1,0 +1,109 @@
+-- Appendix D's instructions give SubCrumb: on registers of n bits an instruction works at each bit apart, and at one bit the checker
+-- computes all sixteen cases of S.
+-- Assumes nothing.
+use mathlib.Core.Path.{_≡_, refl, sym, ap, ap₂, _∙_}
+use mathlib.Core.Bool.{Bool}
+use mathlib.Core.List.{List, [], _∷_, _++_, map}
+use Prim.Native.Nat.{ℕ, zero, suc, _+_, _-_, _*_, _/_, _%_, _^_, _<_, _≤_}
+use native.Mathlib.Omega.{arith}
+use lib.Bits.{bitXor, bitAnd, bitOr, xor-lt, and-lt, or-lt}
+use lib.Dec.{T, eqb, eqb→eq}
+use lib.ListN.{getD, set, List·getD-map}
+use lib.Pow.{ones-sub-lt, pow-pos}
+use Rattle.definition.specs.declared.Crumb.{Crumb}
+use Rattle.definition.specs.Word.{bit, fromBits}
+use Rattle.definition.specs.SubCrumb.{S, crumb, subWord, subCrumb}
+use Rattle.definition.specs.AppendixD.{Instruction, MOV, OR, XOR, AND, NOT, table4, execute, run, results, appendixD}
+use Rattle.definition.proofs.Bits.{bit-lt, bit-zero, bit-xor, bit-and, bit-or, bit-not, from-its-bits}
+use Rattle.definition.proofs.Cases.{Bits, none, more, everyBits, at-bits, both}
+
+-- each register holds a number of n bits
+abbrev Below : (n : ℕ) → List ℕ → Type 0
+Below n rs = (i : ℕ) → getD rs i 0 < 2 ^ n
+
+below-set : (n : ℕ) (rs : List ℕ) (d a : ℕ) → Below n rs → a < 2 ^ n → Below n (set rs d a)
+below-set n [] d a h k i = h i
+below-set n (x ∷ rs) zero a h k zero = k
+below-set n (x ∷ rs) zero a h k (suc i) = h (suc i)
+below-set n (x ∷ rs) (suc d) a h k zero = h zero
+below-set n (x ∷ rs) (suc d) a h k (suc i) = below-set n rs d a (λ i. h (suc i)) k i
+
+below-execute : (n : ℕ) (i : Instruction) (rs : List ℕ) → Below n rs → Below n (execute n i rs)
+unfolding execute
+below-execute n (MOV d s) rs h = below-set n rs d _ h (h s)
+below-execute n (OR d s) rs h = below-set n rs d _ h (or-lt n _ _ (h d) (h s))
+below-execute n (XOR d s) rs h = below-set n rs d _ h (xor-lt n _ _ (h d) (h s))
+below-execute n (AND d s) rs h = below-set n rs d _ h (and-lt n _ _ (h d) (h s))
+below-execute n (NOT d) rs h = below-set n rs d _ h (ones-sub-lt n _)
+
+below-run : (n : ℕ) (is : List Instruction) (rs : List ℕ) → Below n rs → Below n (run n is rs)
+unfolding run
+below-run n [] rs h = h
+below-run n (i ∷ is) rs h = below-run n is (execute n i rs) (below-execute n i rs h)
+
+map-set : (f : ℕ → ℕ) (rs : List ℕ) (d a : ℕ) → map f (set rs d a) ≡ set (map f rs) d (f a)
+map-set f [] d a = refl
+map-set f (x ∷ rs) zero a = refl
+map-set f (x ∷ rs) (suc d) a = ap (λ (l : List ℕ). f x ∷ l) (map-set f rs d a)
+
+module _ (n l : ℕ) (hl : l < n) where
+  -- bit l of a register
+  reg : (rs : List ℕ) (i : ℕ) → bit l (getD rs i 0) ≡ getD (map (bit l) rs) i 0
+  reg rs i = sym (rw (bit-zero l) at (List·getD-map (bit l) rs i 0))
+
+  execute-bit : (i : Instruction) (rs : List ℕ) → Below n rs → map (bit l) (execute n i rs) ≡ execute 1 i (map (bit l) rs)
+  unfolding execute
+  execute-bit (MOV d s) rs h = map-set (bit l) rs d _ ∙ ap (set (map (bit l) rs) d) (reg rs s)
+  execute-bit (OR d s) rs h =
+      map-set (bit l) rs d _ ∙ ap (set (map (bit l) rs) d) (bit-or l _ _ ∙ ap₂ bitOr (reg rs d) (reg rs s))
+  execute-bit (XOR d s) rs h =
+      map-set (bit l) rs d _ ∙ ap (set (map (bit l) rs) d) (bit-xor l _ _ ∙ ap₂ bitXor (reg rs d) (reg rs s))
+  execute-bit (AND d s) rs h =
+      map-set (bit l) rs d _ ∙ ap (set (map (bit l) rs) d) (bit-and l _ _ ∙ ap₂ bitAnd (reg rs d) (reg rs s))
+  execute-bit (NOT d) rs h =
+      map-set (bit l) rs d _
+      ∙ ap (set (map (bit l) rs) d) (bit-not n l _ hl (h d) ∙ ap (λ (x : ℕ). 2 ^ 1 - 1 - x) (reg rs d))
+
+  -- a program on words works at each bit apart
+  pub run-bit : (is : List Instruction) (rs : List ℕ) → Below n rs → map (bit l) (run n is rs) ≡ run 1 is (map (bit l) rs)
+  unfolding run
+  run-bit [] rs h = refl
+  run-bit (i ∷ is) rs h = run-bit is (execute n i rs) (below-execute n i rs h) ∙ ap (run 1 is) (execute-bit i rs h)
+
+-- at one bit, the register that holds x_k gives bit k of S
+right : (register k : ℕ) → List ℕ → Bool
+right register k bs =
+    eqb (getD (run 1 table4 (bs ++ (0 ∷ []))) register 0)
+    (bit k (S (getD bs 3 0 * 8 + getD bs 2 0 * 4 + getD bs 1 0 * 2 + getD bs 0 0)))
+
+module _ (a0 a1 a2 a3 : ℕ) (h0 : a0 < 2 ^ 32) (h1 : a1 < 2 ^ 32) (h2 : a2 < 2 ^ 32) (h3 : a3 < 2 ^ 32) where
+  loaded : Below 32 (a0 ∷ a1 ∷ a2 ∷ a3 ∷ 0 ∷ [])
+  loaded zero = h0
+  loaded (suc zero) = h1
+  loaded (suc (suc zero)) = h2
+  loaded (suc (suc (suc zero))) = h3
+  loaded (suc (suc (suc (suc zero)))) = pow-pos 32
+  loaded (suc (suc (suc (suc (suc i))))) = pow-pos 32
+
+  bits-at : (l : ℕ) → Bits 4 (bit l a0 ∷ bit l a1 ∷ bit l a2 ∷ bit l a3 ∷ [])
+  bits-at l = more (bit-lt l a0) (more (bit-lt l a1) (more (bit-lt l a2) (more (bit-lt l a3) none)))
+
+  -- a register's word is x_k, from the sixteen cases
+  word : (register k : ℕ) → T (everyBits 4 (right register k))
+      → getD (run 32 table4 (a0 ∷ a1 ∷ a2 ∷ a3 ∷ 0 ∷ [])) register 0 ≡ subWord k a0 a1 a2 a3
+  unfolding subWord crumb right
+  word register k t =
+      from-its-bits 32 _ (λ l. bit k (S (crumb a0 a1 a2 a3 l)))
+      (below-run 32 table4 (a0 ∷ a1 ∷ a2 ∷ a3 ∷ 0 ∷ []) loaded register)
+      (λ l hl.
+      reg 32 l hl (run 32 table4 (a0 ∷ a1 ∷ a2 ∷ a3 ∷ 0 ∷ [])) register
+      ∙ ap (λ (rs : List ℕ). getD rs register 0)
+      (run-bit 32 l hl table4 (a0 ∷ a1 ∷ a2 ∷ a3 ∷ 0 ∷ []) loaded
+      ∙ ap (λ (z : ℕ). run 1 table4 (bit l a0 ∷ bit l a1 ∷ bit l a2 ∷ bit l a3 ∷ z ∷ [])) (bit-zero l))
+      ∙ eqb→eq _ _ (at-bits (right register k) t (bits-at l)))
+
+  -- Appendix D's instructions, read left to right and line by line, give SubCrumb
+  pub instructions : appendixD a0 a1 a2 a3 ≡ subCrumb a0 a1 a2 a3
+  unfolding appendixD subCrumb results right run execute table4 bit S
+  instructions =
+      λ i. record { x0 = word 4 0 tt i; x1 = word 1 1 tt i; x2 = word 2 2 tt i; x3 = word 3 3 tt i }

@@ -1,0 +1,28 @@
+-- Four bytes and a word are each other's reading.
+-- Assumes nothing.
+use mathlib.Core.Path.{_≡_, refl}
+use mathlib.Core.List.{List, [], _∷_}
+use Prim.Native.Nat.{ℕ, _+_, _*_, _/_, _%_, _^_, _<_}
+use native.Mathlib.Nat.{div-add-mod', mod-eq-of-lt}
+use native.Mathlib.Omega.{arith}
+use lib.Pow.{shr-shr, shr-lt}
+use Rattle.definition.specs.Word.{wordOf, bytesOf}
+
+list4 : {a b c d a' b' c' d' : ℕ} → a ≡ a' → b ≡ b' → c ≡ c' → d ≡ d'
+    → a ∷ b ∷ c ∷ d ∷ [] ≡ a' ∷ b' ∷ c' ∷ d' ∷ []
+list4 p q r s = λ i. p i ∷ q i ∷ r i ∷ s i ∷ []
+
+pub bytes-of-word : (x0 x1 x2 x3 : ℕ) → x0 < 256 → x1 < 256 → x2 < 256 → x3 < 256
+    → bytesOf (wordOf x0 x1 x2 x3) ≡ x0 ∷ x1 ∷ x2 ∷ x3 ∷ []
+unfolding wordOf bytesOf
+bytes-of-word x0 x1 x2 x3 h0 h1 h2 h3 = list4 (omega arith) (omega arith) (omega arith) (omega arith)
+
+-- a number from its digits at base 256, the highest without a remainder
+rebuilt : (a b c d : ℕ) → a / 256 ≡ b → b / 256 ≡ c → c / 256 ≡ d → d * 2 ^ 24 + c % 256 * 2 ^ 16 + b % 256 * 2 ^ 8 + a % 256 ≡ a
+rebuilt a b c d p q r = omega (arith, div-add-mod' a 256, div-add-mod' b 256, div-add-mod' c 256)
+
+pub word-of-bytes : (a : ℕ) → a < 2 ^ 32 → wordOf (a / 2 ^ 24 % 256) (a / 2 ^ 16 % 256) (a / 2 ^ 8 % 256) (a % 256) ≡ a
+unfolding wordOf
+word-of-bytes a h =
+    rw (mod-eq-of-lt (shr-lt {n = a} 8 24 h))
+    (rebuilt a (a / 2 ^ 8) (a / 2 ^ 16) (a / 2 ^ 24) refl (shr-shr a 8 8) (shr-shr a 16 8))

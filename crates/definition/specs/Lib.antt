@@ -1,0 +1,19 @@
+-- Luffa 2.0.1 as the source defines it, and of document 01's sheet what its examples need. A file for each part, in the source's order.
+pub mod Word
+pub mod Block
+pub mod Field
+pub mod Injection
+pub mod SubCrumb
+pub mod MixWord
+pub mod Constant
+pub mod Permutation
+pub mod Round
+pub mod Padding
+pub mod Start
+pub mod Final
+pub mod Luffa
+pub mod Refusal
+pub mod Sheet
+pub mod AppendixB
+pub mod AppendixD
+pub mod AppendixE

@@ -1,0 +1,32 @@
+-- The four digests: Tables 2 and 3 of the source, under document 01's codes 1 = 224 bits, 2 = 256, 3 = 384, 4 = 512.
+-- Each table has an entry first that stands for no code.
+use Prim.Native.Nat.{ℕ, _*_}
+use mathlib.Core.List.{List, [], _∷_}
+use lib.ListN.{getD}
+use Rattle.definition.specs.declared.Block.{Block}
+use Rattle.definition.specs.declared.Width.{Width}
+use Rattle.definition.specs.declared.Width.the-variants.{W3, W4, W5}
+use Rattle.definition.specs.Word.{bytesOfAll}
+use Rattle.definition.specs.Round.{chain}
+use Rattle.definition.specs.Padding.{closing, padded, blocks}
+use Rattle.definition.specs.Start.{start}
+use Rattle.definition.specs.Final.{final}
+
+-- Table 2: w at a code
+unfoldable pub widthAt : ℕ → Width
+widthAt code = getD (W3 ∷ W3 ∷ W3 ∷ W4 ∷ W5 ∷ []) code W3
+
+-- Table 3: the words of the digest at a code
+unfoldable pub wordsAt : ℕ → ℕ
+wordsAt code = getD (0 ∷ 7 ∷ 8 ∷ 12 ∷ 16 ∷ []) code 0
+
+unfoldable pub bytesAt : ℕ → ℕ
+bytesAt code = 4 * wordsAt code
+
+-- the state after the padded message's blocks
+unfoldable pub absorbed : Width → List ℕ → List Block
+absorbed w m = chain w (start w) (blocks (padded closing m))
+
+-- Luffa of a message of whole bytes, as bytes
+unfoldable pub luffa : (code : ℕ) → List ℕ → List ℕ
+luffa code m = bytesOfAll (final (widthAt code) (wordsAt code) (absorbed (widthAt code) m))

@@ -1,0 +1,67 @@
+-- Refusals by number: document 01, "Refusal numbers". A call's order of refusals is a list of numbers with their conditions; the answer is
+-- the first whose condition holds, and 0 where none does.
+use Prim.Native.Nat.{ℕ, _+_, _*_, _^_}
+use mathlib.Core.Bool.{Bool, true, false, not, _&&_}
+use mathlib.Core.List.{List, [], _∷_}
+use lib.Dec.{leb, ltb, eqb}
+use Rattle.definition.specs.Luffa.{bytesAt}
+
+abbrev pub DONE : ℕ
+DONE = 0
+
+abbrev pub WIDTH : ℕ
+WIDTH = 1
+
+abbrev pub OUT : ℕ
+OUT = 2
+
+abbrev pub RECORD : ℕ
+RECORD = 3
+
+abbrev pub LONG : ℕ
+LONG = 4
+
+abbrev pub SHEET : ℕ
+SHEET = 5
+
+abbrev pub MARKS : ℕ
+MARKS = 6
+
+abbrev pub PLACE : ℕ
+PLACE = 7
+
+abbrev pub FULL : ℕ
+FULL = 8
+
+abbrev pub SIZE : ℕ
+SIZE = 9
+
+abbrev pub CLAIM : ℕ
+CLAIM = 10
+
+abbrev pub STALE : ℕ
+STALE = 11
+
+-- a refusal: its number, and whether its condition holds
+abbrev pub Refusal : Type 0
+Refusal = ℕ × Bool
+
+unfoldable pub pick : Bool → ℕ → ℕ → ℕ
+pick true a b = a
+pick false a b = b
+
+unfoldable pub firstOf : List Refusal → ℕ
+firstOf [] = DONE
+firstOf (r ∷ rs) = pick (r .1) (r .0) (firstOf rs)
+
+-- a code is known when it is 1 to 4
+unfoldable pub known : ℕ → Bool
+known code = leb 1 code && leb code 4
+
+-- 1: a code argument isn't 1 to 4
+unfoldable pub widthRefusal : (code : ℕ) → Refusal
+widthRefusal code = (WIDTH, not (known code))
+
+-- 2: the output buffer is shorter than the digest
+unfoldable pub outRefusal : (code out : ℕ) → Refusal
+outRefusal code out = (OUT, ltb out (bytesAt code))

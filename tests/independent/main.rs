@@ -1,0 +1,173 @@
+//! A separately written Luffa program, to compare another one with. The hash is in luffa.rs; the
+//! four output lines are those of the digest program in the build requirements, and `words` gives
+//! the longer outputs of section 5 of the Luffa specification 2.0.1.
+
+mod check;
+mod luffa;
+
+use luffa::{digest, Luffa, CODES};
+use std::fs::File;
+use std::io::{self, BufRead, BufReader, BufWriter, ErrorKind, Read, Write};
+use std::os::fd::AsFd;
+use std::process::ExitCode;
+
+const USAGE: &str = "\
+usage: independent               four digest lines for standard input
+       independent words CODE N  the first N words of the final stage, and its blank rounds
+       independent pieces        a digest for each line `CODE HEX` of standard input
+       independent check         checks itself against the specification";
+
+/// The house limit on message bytes.
+const LIMIT: u64 = (1 << 61) - 1;
+
+fn main() -> ExitCode {
+    let arguments: Vec<String> = std::env::args().skip(1).collect();
+    let arguments: Vec<&str> = arguments.iter().map(String::as_str).collect();
+    let done = match arguments[..] {
+        [] => four_lines(),
+        ["words", code, n] => match (code_of(code.as_bytes()), n.parse()) {
+            (Some(code), Ok(n)) if n >= 1 => final_words(code, n),
+            _ => return usage(),
+        },
+        ["pieces"] => pieces(),
+        ["check"] => check_all(),
+        _ => return usage(),
+    };
+    match done {
+        Ok(code) => code,
+        // A read or a write failed. What there was to say has been kept back or can't be said.
+        Err(_) => ExitCode::FAILURE,
+    }
+}
+
+fn usage() -> ExitCode {
+    eprintln!("{USAGE}");
+    ExitCode::from(2)
+}
+
+fn code_of(text: &[u8]) -> Option<usize> {
+    match text {
+        [digit @ b'1'..=b'4'] => Some((digit - b'0') as usize),
+        _ => None,
+    }
+}
+
+fn hex(words: &[u32]) -> String {
+    words.iter().map(|word| format!("{word:08x}")).collect()
+}
+
+/// Standard input as a file: the library's own handle reports a descriptor that can't be read as
+/// an empty input, which would give a digest where a read has failed.
+fn input() -> io::Result<File> {
+    Ok(File::from(io::stdin().as_fd().try_clone_to_owned()?))
+}
+
+/// Feeds standard input to every hash. Answers its length, or nothing if that passes the limit.
+fn feed(hashes: &mut [Luffa]) -> io::Result<Option<u64>> {
+    let mut input = input()?;
+    let mut buffer = vec![0; 1 << 20];
+    let mut length = 0;
+    loop {
+        let n = match input.read(&mut buffer) {
+            Ok(0) => return Ok(Some(length)),
+            Ok(n) => n,
+            Err(e) if e.kind() == ErrorKind::Interrupted => continue,
+            Err(e) => return Err(e),
+        };
+        length += n as u64;
+        if length > LIMIT {
+            return Ok(None);
+        }
+        for hash in hashes.iter_mut() {
+            hash.update(&buffer[..n]);
+        }
+    }
+}
+
+fn print(text: &str) -> io::Result<()> {
+    let mut output = io::stdout().lock();
+    output.write_all(text.as_bytes())?;
+    output.flush()
+}
+
+fn over_limit() -> io::Result<ExitCode> {
+    print("4\n")?;
+    Ok(ExitCode::FAILURE)
+}
+
+fn four_lines() -> io::Result<ExitCode> {
+    // One hash for each w; codes 1 and 2 read the same one.
+    let mut hashes = [3, 4, 5].map(Luffa::new);
+    let Some(length) = feed(&mut hashes)? else {
+        return over_limit();
+    };
+    let mut text = String::new();
+    for (code, (w, count)) in (1..).zip(CODES) {
+        let (z, _) = hashes[w - 3].finish(count);
+        text += &format!("{code} {length} {}\n", hex(&z));
+    }
+    print(&text)?;
+    Ok(ExitCode::SUCCESS)
+}
+
+fn final_words(code: usize, n: usize) -> io::Result<ExitCode> {
+    let mut hash = [Luffa::new(CODES[code - 1].0)];
+    if feed(&mut hash)?.is_none() {
+        return over_limit();
+    }
+    let (z, blank_rounds) = hash[0].finish(n);
+    print(&format!("{}\n{blank_rounds}\n", hex(&z)))?;
+    Ok(ExitCode::SUCCESS)
+}
+
+/// Reads the line `CODE HEX` into the message and answers the code.
+fn piece(line: &[u8], message: &mut Vec<u8>) -> Option<usize> {
+    let (code, text) = line.split_at_checked(2)?;
+    let code = code_of(code.strip_suffix(b" ")?)?;
+    message.clear();
+    if text == b"-" {
+        return Some(code);
+    }
+    if text.is_empty() || text.len() % 2 != 0 {
+        return None;
+    }
+    for pair in text.chunks_exact(2) {
+        let high = (pair[0] as char).to_digit(16)?;
+        let low = (pair[1] as char).to_digit(16)?;
+        message.push((high << 4 | low) as u8);
+    }
+    Some(code)
+}
+
+fn pieces() -> io::Result<ExitCode> {
+    let mut input = BufReader::new(input()?);
+    let mut output = BufWriter::new(io::stdout().lock());
+    let (mut line, mut message) = (Vec::new(), Vec::new());
+    for number in 1u64.. {
+        line.clear();
+        if input.read_until(b'\n', &mut line)? == 0 {
+            break;
+        }
+        let text = line.strip_suffix(b"\n").unwrap_or(&line);
+        let Some(code) = piece(text, &mut message) else {
+            output.flush()?;
+            eprintln!("line {number} isn't `CODE HEX`");
+            return Ok(ExitCode::FAILURE);
+        };
+        writeln!(output, "{}", hex(&digest(code, &message)))?;
+    }
+    output.flush()?;
+    Ok(ExitCode::SUCCESS)
+}
+
+fn check_all() -> io::Result<ExitCode> {
+    let differences = check::differences();
+    if differences.is_empty() {
+        print("ok\n")?;
+        return Ok(ExitCode::SUCCESS);
+    }
+    for difference in differences {
+        print(&format!("{difference}\n"))?;
+    }
+    Ok(ExitCode::FAILURE)
+}
