@@ -11,6 +11,8 @@ pub mod Round
 pub mod Padding
 pub mod Start
 pub mod Final
+pub mod State
+pub mod Counted
 pub mod Luffa
 pub mod Refusal
 pub mod Sheet

@@ -32,3 +32,18 @@ pub struct Crumb {
     pub x2: u32,
     pub x3: u32,
 }
+
+// The state H_0 to H_w-1 in room for five blocks; those that w doesn't use are zero.
+pub struct State {
+    pub h0: Block,
+    pub h1: Block,
+    pub h2: Block,
+    pub h3: Block,
+    pub h4: Block,
+}
+
+// A state with the number of rounds run so far: the count travels with the work.
+pub struct Counted {
+    pub state: State,
+    pub rounds: u64,
+}
