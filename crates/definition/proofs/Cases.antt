@@ -1,4 +1,5 @@
--- A rule over a few bits, proved by one test that antt computes over all their cases; and an equation of lists by a test.
+-- A rule over a few bits, or over the numbers below a bound, proved by one test that antt computes over all cases; and an equation of
+-- lists by a test.
 -- Assumes nothing.
 use mathlib.Core.Path.{_≡_, refl, ap₂}
 use mathlib.Core.Bool.{Bool, true, false}
@@ -36,6 +37,17 @@ at-bits f t (more {b = zero} {n = n} h r) =
 at-bits f t (more {b = suc zero} {n = n} h r) =
     at-bits (λ bs. f (1 ∷ bs)) (both-right (everyBits n (λ bs. f (0 ∷ bs))) (everyBits n (λ bs. f (1 ∷ bs))) t) r
 at-bits f t (more {b = suc (suc b)} h r) = absurd (not-suc-le-zero (le-of-suc-le-suc (le-of-suc-le-suc h)))
+
+-- the test passes at each number below n
+abbrev pub everyBelow : ℕ → (ℕ → Bool) → Bool
+everyBelow zero f = true
+everyBelow (suc n) f = both (f 0) (everyBelow n (λ k. f (suc k)))
+
+pub at-below : (n : ℕ) (f : ℕ → Bool) → T (everyBelow n f) → (k : ℕ) → k < n → T (f k)
+at-below zero f t k h = absurd (not-suc-le-zero h)
+at-below (suc n) f t zero h = both-left (f 0) (everyBelow n (λ k. f (suc k))) t
+at-below (suc n) f t (suc k) h =
+    at-below n (λ k. f (suc k)) (both-right (f 0) (everyBelow n (λ k. f (suc k))) t) k (le-of-suc-le-suc h)
 
 -- two lists of numbers are the same, as a test
 abbrev pub same : List ℕ → List ℕ → Bool

@@ -7,6 +7,8 @@ pub mod Xor
 pub mod Field
 pub mod Injection
 pub mod Constant
+pub mod Chain
+pub mod Padding
 pub mod Computed
 pub mod Vectors
 pub mod Sheet

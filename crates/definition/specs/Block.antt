@@ -34,11 +34,11 @@ xorAll (b ∷ bs) = b ⊕ xorAll bs
 unfoldable pub wordsOf : Block → List ℕ
 wordsOf b = b .a0 ∷ b .a1 ∷ b .a2 ∷ b .a3 ∷ b .a4 ∷ b .a5 ∷ b .a6 ∷ b .a7 ∷ []
 
--- 2.2: word k of 32 bytes, x_4k || x_4k+1 || x_4k+2 || x_4k+3
+-- 2.2: word k of a string of bytes, x_4k || x_4k+1 || x_4k+2 || x_4k+3
 unfoldable pub wordAt : List ℕ → ℕ → ℕ
 wordAt x k = wordOf (getD x (4 * k) 0) (getD x (4 * k + 1) 0) (getD x (4 * k + 2) 0) (getD x (4 * k + 3) 0)
 
--- 2.2: 32 bytes as a block
+-- 2.2: the first 32 bytes as a block
 unfoldable pub blockOf : List ℕ → Block
 blockOf x =
     record {
