@@ -1,0 +1,12 @@
+/* The portable C Luffa that the archive is compared with: one call, of the same form as luffa_digest of include/luffa.h, so that the
+   benchmark holds both in one type. */
+#ifndef PORTABLE_H
+#define PORTABLE_H
+
+#include <stddef.h>
+#include <stdint.h>
+
+/* 0 = done; 1 = the code isn't 1 to 4; 2 = the output buffer is shorter than the digest. */
+uint32_t portable_digest(size_t code, const uint8_t *message, size_t message_len, uint8_t *out, size_t out_len);
+
+#endif

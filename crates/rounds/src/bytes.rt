@@ -1,0 +1,37 @@
+// Message blocks from bytes: four bytes to a word, the first highest (source, 2.2).
+ghost use mathlib.Core.Path.{_≡_};
+ghost use Prim.Native.Nat.{_+_, _≤_};
+ghost use lib.ListN.{length, getD};
+ghost use Rattle.definition.specs.Word.{wordOf};
+ghost use Rattle.definition.specs.Block.{blockOf};
+use definition::Block;
+
+fn word(x0: u8, x1: u8, x2: u8, x3: u8) -> u32
+    ensures { λ r. ⌜ r ≡ wordOf x0 x1 x2 x3 ⌝ }
+{
+    (x0 as u32) * 16777216 + (x1 as u32) * 65536 + (x2 as u32) * 256 + (x3 as u32)
+}
+
+fn word_at(t: &[u8], i: usize) -> u32
+    requires { ⌜ i + 4 ≤ length (now t) ⌝ }
+    ensures { λ r. ⌜ r ≡ wordOf (getD (now (t .entry)) i 0) (getD (now (t .entry)) (i + 1) 0) (getD (now (t .entry)) (i + 2) 0) (getD (now (t .entry)) (i + 3) 0) ⌝ }
+{
+    word(t[i], t[i + 1], t[i + 2], t[i + 3])
+}
+
+// The first 32 bytes of a slice as a block.
+pub(crate) fn block(t: &[u8]) -> Block
+    requires { ⌜ 32 ≤ length (now t) ⌝ }
+    ensures { λ r. ⌜ r ≡ blockOf (now (t .entry)) ⌝ }
+{
+    Block {
+        a0: word_at(t, 0),
+        a1: word_at(t, 4),
+        a2: word_at(t, 8),
+        a3: word_at(t, 12),
+        a4: word_at(t, 16),
+        a5: word_at(t, 20),
+        a6: word_at(t, 24),
+        a7: word_at(t, 28),
+    }
+}

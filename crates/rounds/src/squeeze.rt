@@ -1,0 +1,1 @@
+// The final stage (source, 3.3 and 5).
