@@ -9,6 +9,8 @@ pub mod Injection
 pub mod Constant
 pub mod Chain
 pub mod Padding
+pub mod Buffer
+pub mod Final
 pub mod Computed
 pub mod Vectors
 pub mod Sheet

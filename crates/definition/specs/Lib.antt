@@ -14,6 +14,7 @@ pub mod Final
 pub mod State
 pub mod Counted
 pub mod Luffa
+pub mod Buffer
 pub mod Refusal
 pub mod Sheet
 pub mod AppendixB

@@ -1,2 +1,3 @@
 -- Laws of lists that the proofs share.
 pub mod Parts
+pub mod Words

@@ -1,1 +1,101 @@
-// The final stage (source, 3.3 and 5).
+// The final stage: a blank round, and the XOR of all blocks after it, before every eighth output word (source, 3.3 and 5).
+ghost use mathlib.Core.Path.{_≡_};
+ghost use mathlib.Core.List.{[], _∷_};
+ghost use Prim.Native.Nat.{_+_, _*_, _/_, _<_, _≤_};
+ghost use lib.ListN.{length, getD, replicate};
+ghost use Rattle.definition.specs.Word.{bytesOf, bytesOfAll};
+ghost use Rattle.definition.specs.Block.{zeroBlock, xorAll, wordsOf};
+ghost use Rattle.definition.specs.State.{five, blocksIn};
+ghost use Rattle.definition.specs.Final.{finalRounds, final as finalOf};
+ghost use Rattle.definition.specs.Counted.{countedChain};
+ghost use Rattle.definition.specs.Buffer.{overwriteAt, overwrite};
+ghost use Rattle.rounds.specs.Squeeze.{turned};
+use definition::Block;
+use definition::Counted;
+use definition::State;
+use definition::Width;
+
+// A state and the output that was last taken.
+struct Squeezed {
+    counted: Counted,
+    z: Block,
+}
+
+// OF: the XOR of all blocks; those that w doesn't use are zero.
+fn output(s: State) -> Block
+    ensures { λ r. ⌜ r ≡ xorAll (five s) ⌝ }
+{
+    let h0 = s.h0;
+    let h1 = s.h1;
+    let h2 = s.h2;
+    let h3 = s.h3;
+    let h4 = s.h4;
+    injection::xor(
+        h0,
+        injection::xor(
+            h1,
+            injection::xor(
+                h2,
+                injection::xor(h3, injection::xor(h4, injection::zero())),
+            ),
+        ),
+    )
+}
+
+// Word k of a block.
+fn nth(z: Block, k: usize) -> u32
+    requires { ⌜ k < 8 ⌝ }
+    ensures { λ r. ⌜ r ≡ getD (wordsOf z) k 0 ⌝ }
+{
+    let v = [z.a0, z.a1, z.a2, z.a3, z.a4, z.a5, z.a6, z.a7];
+    v[k]
+}
+
+// Before word i.
+fn turn(w: Width, i: usize, q: Squeezed) -> Squeezed
+    ensures { λ r. ⌜ r ≡ turned w i q ⌝ }
+{
+    if i % 8 == 0 {
+        let d = q.counted;
+        let c = crate::counted_round(w, d, injection::zero());
+        let s = c.state;
+        return Squeezed {
+            counted: c,
+            z: output(s),
+        };
+    }
+    q
+}
+
+// A word's four bytes, the highest first, from place i on.
+fn put_word(out: &mut [u8], i: usize, a: u32)
+    requires { ⌜ i + 4 ≤ length (now out) ⌝ }
+    ensures { λ _. ⌜ now (out .exit) ≡ overwriteAt i (bytesOf a) (now (out .entry)) ⌝ }
+{
+    out[i] = (a / 16777216 % 256) as u8;
+    out[i + 1] = (a / 65536 % 256) as u8;
+    out[i + 2] = (a / 256 % 256) as u8;
+    out[i + 3] = (a % 256) as u8;
+}
+
+// As many words of the final stage as the buffer has room for whole.
+pub fn squeeze(w: Width, c: Counted, out: &mut [u8]) -> Counted
+    ensures { λ r. ⌜ r ≡ countedChain w c (replicate (finalRounds (length (now (out .entry)) / 4)) zeroBlock) ⌝ }
+    ensures { λ r. ⌜ now (out .exit) ≡ overwrite (bytesOfAll (finalOf w (length (now (out .entry)) / 4) (blocksIn w (c .state)))) (now (out .entry)) ⌝ }
+{
+    let n = out.len() / 4;
+    let s = c.state;
+    let d = Counted {
+        state: permutation::used(w, s),
+        rounds: c.rounds,
+    };
+    let mut q = Squeezed {
+        counted: d,
+        z: injection::zero(),
+    };
+    for i in 0..n {
+        q = turn(w, i, q);
+        put_word(out, 4 * i, nth(q.z, i % 8));
+    }
+    q.counted
+}

@@ -1,0 +1,12 @@
+-- What a call leaves in a buffer: some elements written at a place, the others as they were.
+use Prim.Native.Nat.{ℕ, _+_}
+use mathlib.Core.List.{List, _++_}
+use lib.ListN.{length, take, drop}
+
+-- p written from place i on
+unfoldable pub overwriteAt : ℕ → List ℕ → List ℕ → List ℕ
+overwriteAt i p l = take i l ++ p ++ drop (i + length p) l
+
+-- p written in front: document 01, "a digest stands in the first bytes of the output buffer and the bytes after it are untouched"
+unfoldable pub overwrite : List ℕ → List ℕ → List ℕ
+overwrite p l = p ++ drop (length p) l
