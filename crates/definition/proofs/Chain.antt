@@ -97,7 +97,7 @@ counted-rounds w c (m ∷ ms) h =
     ∙ ap (λ (n : ℕ). n % 2 ^ 64) (omega arith)
 
 -- one round leaves the blocks that w doesn't use zero
-counted-once : (w : Width) (c : Counted) (m : Block) → countedChain w c (m ∷ []) ≡ countedRound w c m
+pub counted-once : (w : Width) (c : Counted) (m : Block) → countedChain w c (m ∷ []) ≡ countedRound w c m
 unfolding countedChain countedRound
 counted-once w c m = rw blocks-of-round
 

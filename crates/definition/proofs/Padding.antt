@@ -50,6 +50,11 @@ blocks-cons x h =
     let e : length x / 32 ≡ suc (length (drop 32 x) / 32) = omega (arith, length-drop 32 x) in
     ap (λ (n : ℕ). blocksTo n x) e
 
+pub blocks-one : (x : List ℕ) → length x ≡ 32 → blocks x ≡ blockOf x ∷ []
+blocks-one x e =
+    blocks-cons x (omega arith)
+    ∙ ap (λ (bs : List Block). blockOf x ∷ bs) (blocks-none (drop 32 x) (omega (arith, length-drop 32 x)))
+
 -- n full blocks, and what comes after them
 pub blocks-append : (n : ℕ) (x y : List ℕ) → length x ≡ n * 32 → blocks (x ++ y) ≡ blocks x ++ blocks y
 blocks-append zero [] y e = ap (λ (l : List Block). l ++ blocks y) (sym (blocks-none [] (omega arith)))
@@ -61,15 +66,15 @@ blocks-append (suc n) x y e =
     (ap blocks (drop-append-le 32 x y h) ∙ blocks-append n (drop 32 x) y (omega (arith, length-drop 32 x)))
     ∙ ap (λ (l : List Block). l ++ blocks y) (sym (blocks-cons x h))
 
-length-padding : (last n : ℕ) → length (padding last n) ≡ 32 - n % 32
+pub length-padding : (last n : ℕ) → length (padding last n) ≡ 32 - n % 32
 unfolding padding
 length-padding last n = omega (arith, length-replicate {A = ℕ} (31 - n % 32) 0)
 
-rest-short : (x : List ℕ) → length x < 32 → rest x ≡ x
+pub rest-short : (x : List ℕ) → length x < 32 → rest x ≡ x
 unfolding rest
 rest-short x h = let e : length x / 32 * 32 ≡ 0 = omega arith in rw e
 
-short-last : (last : ℕ) (x : List ℕ) → length x < 32 → blockOf (x ++ padding last (length x)) ≡ lastBlock last x
+pub short-last : (last : ℕ) (x : List ℕ) → length x < 32 → blockOf (x ++ padding last (length x)) ≡ lastBlock last x
 unfolding lastBlock
 short-last last x h = rw (rest-short x h)
 
@@ -97,10 +102,8 @@ unfolding padded
 padded-to zero last x e =
     let h : length x < 32 = omega arith in
     let l : length (x ++ padding last (length x)) ≡ 32 = omega (arith, length-append x (padding last (length x)), length-padding last (length x)) in
-    blocks-cons (x ++ padding last (length x)) (omega arith)
-    ∙ ap₂ (λ (b : Block) (bs : List Block). b ∷ bs)
-    (short-last last x h)
-    (blocks-none (drop 32 (x ++ padding last (length x))) (omega (arith, length-drop 32 (x ++ padding last (length x)))))
+    blocks-one (x ++ padding last (length x)) l
+    ∙ ap (λ (b : Block). b ∷ []) (short-last last x h)
     ∙ ap (λ (l : List Block). l ++ (lastBlock last x ∷ [])) (sym (blocks-none x h))
 padded-to (suc n) last x e =
     let h : 32 ≤ length x = omega arith in

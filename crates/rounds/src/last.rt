@@ -1,19 +1,18 @@
 // The padded end of a message (source, 3.1).
 ghost use mathlib.Core.Path.{_≡_};
-ghost use mathlib.Core.List.{_++_};
+ghost use mathlib.Core.List.{[], _∷_, _++_};
 ghost use Prim.Native.Nat.{_<_};
 ghost use lib.ListN.{length};
 ghost use Rattle.definition.specs.Block.{blockOf};
-ghost use Rattle.definition.specs.Padding.{closing, padding, padded, blocks, lastBlock};
+ghost use Rattle.definition.specs.Padding.{closing, padding, padded, blocks};
 ghost use Rattle.definition.specs.Counted.{countedChain};
-use definition::Block;
 use definition::Counted;
 use definition::Width;
 
-// Fewer than 32 bytes, closed and filled up.
-fn padded_block(t: &[u8]) -> Block
+// Fewer than 32 bytes, closed and filled up: one round.
+fn absorb_padded(w: Width, c: Counted, t: &[u8]) -> Counted
     requires { ⌜ length (now t) < 32 ⌝ }
-    ensures { λ r. ⌜ r ≡ blockOf (now (t .entry) ++ padding closing (length (now (t .entry)))) ⌝ }
+    ensures { λ r. ⌜ r ≡ countedChain w c (blockOf (now (t .entry) ++ padding closing (length (now (t .entry)))) ∷ []) ⌝ }
 {
     let n = t.len();
     let mut p = [0u8; 32];
@@ -23,15 +22,7 @@ fn padded_block(t: &[u8]) -> Block
         i += 1;
     }
     p[n] = 0x80;
-    crate::bytes::block(&p)
-}
-
-// The padded block that the bytes after the last full block begin.
-pub fn last_block(s: &[u8]) -> Block
-    ensures { λ r. ⌜ r ≡ lastBlock closing (now (s .entry)) ⌝ }
-{
-    let at = s.len() / 32 * 32;
-    padded_block(&s[at..])
+    crate::absorb(w, c, &p)
 }
 
 // All that is left of a message: a round for each full block, and one for the padded end.
@@ -39,5 +30,6 @@ pub fn absorb_last(w: Width, c: Counted, s: &[u8]) -> Counted
     ensures { λ r. ⌜ r ≡ countedChain w c (blocks (padded closing (now (s .entry)))) ⌝ }
 {
     let d = crate::absorb(w, c, s);
-    crate::counted_round(w, d, last_block(s))
+    let at = s.len() / 32 * 32;
+    absorb_padded(w, d, &s[at..])
 }

@@ -57,7 +57,7 @@ fn turn(w: Width, i: usize, q: Squeezed) -> Squeezed
 {
     if i % 8 == 0 {
         let d = q.counted;
-        let c = crate::counted_round(w, d, injection::zero());
+        let c = crate::absorb(w, d, &[0u8; 32]);
         let s = c.state;
         return Squeezed {
             counted: c,
