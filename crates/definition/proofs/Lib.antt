@@ -10,6 +10,7 @@ pub mod Constant
 pub mod Chain
 pub mod Padding
 pub mod Buffer
+pub mod Codes
 pub mod Final
 pub mod Computed
 pub mod Vectors

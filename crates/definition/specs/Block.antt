@@ -2,7 +2,9 @@
 use Prim.Native.Nat.{ℕ, zero, suc, _+_, _*_}
 use mathlib.Core.List.{List, [], _∷_}
 use lib.Bits.{bitXor}
-use lib.ListN.{getD}
+use mathlib.Core.Bool.{Bool, true, false}
+use lib.Dec.{leb}
+use lib.ListN.{length, getD}
 use Rattle.definition.specs.declared.Block.{Block}
 use Rattle.definition.specs.Word.{wordOf}
 
@@ -51,3 +53,11 @@ blockOf x =
       a6 = wordAt x 6;
       a7 = wordAt x 7;
     }
+
+-- the first 32 bytes where there are as many, else zero
+unfoldable pub blockWhen : Bool → List ℕ → Block
+blockWhen true x = blockOf x
+blockWhen false x = zeroBlock
+
+unfoldable pub firstBlock : List ℕ → Block
+firstBlock x = blockWhen (leb 32 (length x)) x

@@ -16,6 +16,8 @@ pub mod Counted
 pub mod Luffa
 pub mod Buffer
 pub mod Refusal
+pub mod Record
+pub mod Calls
 pub mod Sheet
 pub mod AppendixB
 pub mod AppendixD

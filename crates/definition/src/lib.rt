@@ -47,3 +47,11 @@ pub struct Counted {
     pub state: State,
     pub rounds: u64,
 }
+
+// The kept hash record by value: its code, state, pending bytes and the bytes fed so far (document 01, "The kept hash record").
+pub struct Kept {
+    pub code: usize,
+    pub state: State,
+    pub pending: [u8; 32],
+    pub count: u64,
+}

@@ -22,8 +22,8 @@ use Rattle.definition.specs.Start.{blockCount}
 use Rattle.definition.specs.State.{five, blocksIn, stateOf}
 use Rattle.definition.specs.Final.{outputs, finalRounds, final}
 use Rattle.definition.specs.Counted.{countedRound, countedChain}
-use Rattle.definition.specs.Buffer.{overwriteAt, overwrite}
-use Rattle.definition.proofs.Buffer.{overwrite-more, length-overwrite}
+use Rattle.definition.specs.Buffer.{overwrite, writeAt}
+use Rattle.definition.proofs.Buffer.{write-more, length-overwrite}
 use Rattle.definition.proofs.Chain.{counted-snoc, counted-state, length-blocksIn}
 use Rattle.definition.proofs.Final.{blank, length-outputs, output-at, xor-five, length-blank}
 use Rattle.rounds.specs.declared.squeeze.Squeezed.{Squeezed}
@@ -148,12 +148,13 @@ length-bytes (b ∷ ws) = omega (arith, length-bytes ws)
 -- one word more in the buffer
 pub put-more : (w : Width) (q₀ q : Squeezed) (i : ℕ) (out out₀ : List ℕ) → q ≡ squeezed w q₀ (suc i)
     → out ≡ overwrite (bytesOfAll (wordsTo w q₀ i)) out₀
-    → overwriteAt (4 * i) (bytesOf (getD (wordsOf (q .z)) (i % 8) 0)) out ≡ overwrite (bytesOfAll (wordsTo w q₀ (suc i))) out₀
-unfolding wordsTo
-put-more w q₀ q i out out₀ e f =
+    → i < length out₀ / 4
+    → writeAt (4 * i) (bytesOf (getD (wordsOf (q .z)) (i % 8) 0)) out ≡ overwrite (bytesOfAll (wordsTo w q₀ (suc i))) out₀
+unfolding wordsTo bytesOf
+put-more w q₀ q i out out₀ e f h =
     let ws : List ℕ = wordsTo w q₀ i in
     rw (e, f)
-    (overwrite-more (bytesOfAll ws) _ out₀ (4 * i) (length-bytes ws ∙ ap (λ (n : ℕ). 4 * n) (length-words w q₀ i))
+    (write-more (bytesOfAll ws) _ out₀ (4 * i) (length-bytes ws ∙ ap (λ (n : ℕ). 4 * n) (length-words w q₀ i)) (omega arith)
     ∙ ap (λ (p : List ℕ). overwrite p out₀) (sym (bytes-snoc ws _)))
 
 pub put-length : (w : Width) (q₀ : Squeezed) (i : ℕ) (out out₀ : List ℕ) → i ≤ length out₀ / 4

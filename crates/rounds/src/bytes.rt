@@ -2,8 +2,9 @@
 ghost use mathlib.Core.Path.{_≡_};
 ghost use Prim.Native.Nat.{_+_, _≤_};
 ghost use lib.ListN.{length, getD};
-ghost use Rattle.definition.specs.Word.{wordOf};
-ghost use Rattle.definition.specs.Block.{blockOf};
+ghost use Rattle.definition.specs.Word.{wordOf, bytesOf};
+ghost use Rattle.definition.specs.Block.{blockOf, firstBlock};
+ghost use Rattle.definition.specs.Buffer.{writeAt};
 use definition::Block;
 
 fn word(x0: u8, x1: u8, x2: u8, x3: u8) -> u32
@@ -20,7 +21,7 @@ fn word_at(t: &[u8], i: usize) -> u32
 }
 
 // The first 32 bytes of a slice as a block.
-pub(crate) fn block(t: &[u8]) -> Block
+pub(crate) fn full_block(t: &[u8]) -> Block
     requires { ⌜ 32 ≤ length (now t) ⌝ }
     ensures { λ r. ⌜ r ≡ blockOf (now (t .entry)) ⌝ }
 {
@@ -34,4 +35,30 @@ pub(crate) fn block(t: &[u8]) -> Block
         a6: word_at(t, 24),
         a7: word_at(t, 28),
     }
+}
+
+// The same, or zero where the slice is shorter.
+pub fn block(t: &[u8]) -> Block
+    ensures { λ r. ⌜ r ≡ firstBlock (now (t .entry)) ⌝ }
+{
+    if t.len() < 32 {
+        return injection::zero();
+    }
+    full_block(t)
+}
+
+// A word's four bytes, the highest first, from place i on; nothing where there is no room for them.
+pub fn put_word(out: &mut [u8], i: usize, a: u32)
+    ensures { λ _. ⌜ now (out .exit) ≡ writeAt i (bytesOf a) (now (out .entry)) ⌝ }
+{
+    if out.len() < 4 {
+        return;
+    }
+    if out.len() - 4 < i {
+        return;
+    }
+    out[i] = (a / 16777216 % 256) as u8;
+    out[i + 1] = (a / 65536 % 256) as u8;
+    out[i + 2] = (a / 256 % 256) as u8;
+    out[i + 3] = (a % 256) as u8;
 }

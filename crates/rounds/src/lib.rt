@@ -1,6 +1,7 @@
 // Luffa's rounds: the round with its count, whole blocks from a byte slice, the padded end of a message, and the final stage (source, 3.1 to
 // 3.3). Every round is run by counted_round.
-mod bytes;
+pub mod bytes;
+pub mod codes;
 pub mod last;
 pub mod squeeze;
 
@@ -106,7 +107,7 @@ pub fn absorb(w: Width, c: Counted, s: &[u8]) -> Counted
     let mut t = s;
     let mut d = c;
     while 32 <= t.len() {
-        let m = bytes::block(t);
+        let m = bytes::full_block(t);
         d = counted_round(w, d, m);
         t = &t[32..];
     }

@@ -1,14 +1,13 @@
 // The final stage: a blank round, and the XOR of all blocks after it, before every eighth output word (source, 3.3 and 5).
 ghost use mathlib.Core.Path.{_≡_};
-ghost use mathlib.Core.List.{[], _∷_};
-ghost use Prim.Native.Nat.{_+_, _*_, _/_, _<_, _≤_};
+ghost use Prim.Native.Nat.{_/_, _<_, min};
 ghost use lib.ListN.{length, getD, replicate};
-ghost use Rattle.definition.specs.Word.{bytesOf, bytesOfAll};
+ghost use Rattle.definition.specs.Word.{bytesOfAll};
 ghost use Rattle.definition.specs.Block.{zeroBlock, xorAll, wordsOf};
 ghost use Rattle.definition.specs.State.{five, blocksIn};
 ghost use Rattle.definition.specs.Final.{finalRounds, final as finalOf};
 ghost use Rattle.definition.specs.Counted.{countedChain};
-ghost use Rattle.definition.specs.Buffer.{overwriteAt, overwrite};
+ghost use Rattle.definition.specs.Buffer.{overwrite};
 ghost use Rattle.rounds.specs.Squeeze.{turned};
 use definition::Block;
 use definition::Counted;
@@ -67,23 +66,22 @@ fn turn(w: Width, i: usize, q: Squeezed) -> Squeezed
     q
 }
 
-// A word's four bytes, the highest first, from place i on.
-fn put_word(out: &mut [u8], i: usize, a: u32)
-    requires { ⌜ i + 4 ≤ length (now out) ⌝ }
-    ensures { λ _. ⌜ now (out .exit) ≡ overwriteAt i (bytesOf a) (now (out .entry)) ⌝ }
+// The lesser of two numbers.
+fn least(a: usize, b: usize) -> usize
+    ensures { λ r. ⌜ r ≡ min a b ⌝ }
 {
-    out[i] = (a / 16777216 % 256) as u8;
-    out[i + 1] = (a / 65536 % 256) as u8;
-    out[i + 2] = (a / 256 % 256) as u8;
-    out[i + 3] = (a % 256) as u8;
+    if a <= b {
+        return a;
+    }
+    b
 }
 
-// As many words of the final stage as the buffer has room for whole.
-pub fn squeeze(w: Width, c: Counted, out: &mut [u8]) -> Counted
-    ensures { λ r. ⌜ r ≡ countedChain w c (replicate (finalRounds (length (now (out .entry)) / 4)) zeroBlock) ⌝ }
-    ensures { λ r. ⌜ now (out .exit) ≡ overwrite (bytesOfAll (finalOf w (length (now (out .entry)) / 4) (blocksIn w (c .state)))) (now (out .entry)) ⌝ }
+// A number of words of the final stage, or as many as the buffer has room for whole.
+pub fn squeeze(w: Width, c: Counted, words: usize, out: &mut [u8]) -> Counted
+    ensures { λ r. ⌜ r ≡ countedChain w c (replicate (finalRounds (min words (length (now (out .entry)) / 4))) zeroBlock) ⌝ }
+    ensures { λ r. ⌜ now (out .exit) ≡ overwrite (bytesOfAll (finalOf w (min words (length (now (out .entry)) / 4)) (blocksIn w (c .state)))) (now (out .entry)) ⌝ }
 {
-    let n = out.len() / 4;
+    let n = least(words, out.len() / 4);
     let s = c.state;
     let d = Counted {
         state: permutation::used(w, s),
@@ -95,7 +93,7 @@ pub fn squeeze(w: Width, c: Counted, out: &mut [u8]) -> Counted
     };
     for i in 0..n {
         q = turn(w, i, q);
-        put_word(out, 4 * i, nth(q.z, i % 8));
+        crate::bytes::put_word(out, 4 * i, nth(q.z, i % 8));
     }
     q.counted
 }

@@ -32,7 +32,7 @@ loop-again c =
     let l = c .before .before .before .before .loop in
     let t = now (l .t) in
     let h : 32 ≤ length t = omega arith in
-    rw (part-rest 32 t, c .before .counted-round .ensures, c .before .before .block .ensures)
+    rw (part-rest 32 t, c .before .counted-round .ensures, c .before .before .full-block .ensures)
     (ap (countedChain _ (l .d)) (sym (blocks-cons t h)) ∙ l .inv)
 
 returns : tie.Need-returns Inv-loop μ-loop

@@ -1,41 +1,18 @@
--- `rounds::bytes::block` meets its contract: its words are those of 2.2.
+-- `rounds::bytes::block` meets its contract, with 32 bytes and with fewer.
 -- Assumes nothing.
 use borrow.Author.Needs.{needs}
-use Rattle.definition.specs.Block.{wordAt, blockOf}
+use borrow.Author.Tests.{lt-leb, le-leb}
+use Rattle.definition.specs.Block.{blockWhen, firstBlock}
 use Rattle.rounds.proofs.bytes.block.Statement.{statement}
 use Rattle.rounds.proofs.bytes.block.Tie as tie
 
 returns : tie.Need-returns
-unfolding wordAt blockOf
-returns c =
-    let d7 = c .before in
-    let d6 = d7 .before in
-    let d5 = d6 .before in
-    let d4 = d5 .before in
-    let d3 = d4 .before in
-    let d2 = d3 .before in
-    let d1 = d2 .before in
-    λ i. record {
-      a0 = d1 .word-at .ensures i;
-      a1 = d2 .word-at2 .ensures i;
-      a2 = d3 .word-at3 .ensures i;
-      a3 = d4 .word-at4 .ensures i;
-      a4 = d5 .word-at5 .ensures i;
-      a5 = d6 .word-at6 .ensures i;
-      a6 = d7 .word-at7 .ensures i;
-      a7 = c .word-at8 .ensures i;
-    }
+unfolding firstBlock blockWhen
+returns c = rw (lt-leb _ _ (c .before .if1 .taken)) (c .zero .ensures)
+
+returns-2 : tie.Need-returns-2
+unfolding firstBlock blockWhen
+returns-2 c = rw (le-leb _ _ (c .before .if1 .left)) (c .full-block .ensures)
 
 pub block-spec : {M : Type 1} → statement M
-block-spec =
-    tie.close
-    (tie.spec
-    (λ c κs. search needs)
-    (λ c κs. search needs)
-    (λ c κs. search needs)
-    (λ c κs. search needs)
-    (λ c κs. search needs)
-    (λ c κs. search needs)
-    (λ c κs. search needs)
-    (λ c κs. search needs)
-    returns)
+block-spec = tie.close (tie.spec (λ c κs. tt) returns (λ c κs. search needs) returns-2)

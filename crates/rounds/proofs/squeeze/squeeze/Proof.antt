@@ -2,7 +2,7 @@
 -- Assumes nothing.
 use mathlib.Core.Path.{_≡_, refl, sym, ap, _∙_}
 use mathlib.Core.List.{List}
-use Prim.Native.Nat.{ℕ, suc, _-_, _*_, _/_, _^_, _<_, _≤_}
+use Prim.Native.Nat.{ℕ, suc, _-_, _*_, _/_, _^_, _<_, _≤_, min}
 use native.Mathlib.Numerals.{add-one}
 use native.Mathlib.Omega.{arith}
 use denote.Ref.{now}
@@ -19,26 +19,21 @@ use Rattle.rounds.proofs.squeeze.squeeze.Statement.{statement}
 use Rattle.rounds.proofs.squeeze.squeeze.Tie as tie
 
 abbrev Inv-loop : tie.InvT-loop
-Inv-loop w out₀ n q₀ i₀ out q i =
-    (i ≤ n) × (length out₀ < 2 ^ 64) × (q ≡ squeezed w q₀ i) × (out ≡ overwrite (bytesOfAll (wordsTo w q₀ i)) out₀)
+Inv-loop w words out₀ n q₀ i₀ out q i =
+    (i ≤ n) × ((n ≤ length out₀ / 4) × (length out₀ < 2 ^ 64)) × (q ≡ squeezed w q₀ i) × (out ≡ overwrite (bytesOfAll (wordsTo w q₀ i)) out₀)
 
 abbrev μ-loop : tie.MeasureT-loop
-μ-loop w out₀ n q₀ i₀ out q i = n - i
+μ-loop w words out₀ n q₀ i₀ out q i = n - i
 
 loop-holds : tie.Need-loop-holds Inv-loop μ-loop
 unfolding squeezed wordsTo bytesOfAll
-loop-holds c = (omega arith, omega arith, refl, sym (overwrite-none _))
+loop-holds c = (omega arith, (omega arith, omega arith), refl, sym (overwrite-none _))
 
 mul-put-word : tie.Need-mul-put-word Inv-loop μ-loop
 mul-put-word c = omega arith
 
 nth-requires : tie.Need-nth-requires Inv-loop μ-loop
 nth-requires c κs = omega arith
-
-put-word-requires : tie.Need-put-word-requires Inv-loop μ-loop
-put-word-requires c κs =
-    let l = c .before .before .before .before .loop in
-    omega (arith, put-length _ _ (l .i) (l .out) _ (omega arith) (l .inv .3))
 
 loop-again : tie.Need-loop-again Inv-loop μ-loop
 unfolding squeezed
@@ -51,7 +46,7 @@ loop-again c =
       rw (add-one (l .i)) t,
       rw (add-one (l .i))
           (rw (c .before .before .before .nth .ensures) at (c .before .before .put-word .ensures)
-          ∙ put-more _ _ _ (l .i) (l .out) _ t (l .inv .3)),
+          ∙ put-more _ _ _ (l .i) (l .out) _ t (l .inv .3) (omega arith)),
     )
 
 same-length : tie.Need-same-length Inv-loop μ-loop
@@ -62,12 +57,13 @@ same-length c =
 returns : tie.Need-returns Inv-loop μ-loop
 unfolding begun countedChain
 returns c =
-    let a = c .before .before .before .before .before .before .before .args in
+    let start = c .before .before .before .before .before .before .before .before in
+    let a = start .args in
     let l = c .before .before .loop in
-    let n : l .i ≡ length (now (a .out)) / 4 = omega arith in
+    let n : l .i ≡ min (a .words) (length (now (a .out)) / 4) = omega arith in
     let zero = c .before .before .before .zero .ensures in
     let used = c .before .before .before .before .used .ensures in
-    let m : ℕ = length (now (a .out)) / 4 in (
+    let m : ℕ = min (a .words) (length (now (a .out)) / 4) in (
       ap (λ (q : Squeezed). q .counted) (rw (n, used, zero) at (l .inv .2)) ∙ rounds-after (a .w) (a .c) m,
       (rw (n, used, zero) at (l .inv .3))
           ∙ ap (λ (ws : List ℕ). overwrite (bytesOfAll ws) (now (a .out))) (words-final (a .w) (a .c) m),
@@ -81,11 +77,12 @@ squeeze-spec =
     μ-loop
     (λ c κs. tt)
     (λ c κs. tt)
+    (λ c κs. tt)
     loop-holds
     (λ c κs. tt)
     mul-put-word
     nth-requires
-    put-word-requires
+    (λ c κs. tt)
     (λ c. omega arith)
     (λ c. omega arith)
     loop-again
