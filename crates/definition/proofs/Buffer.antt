@@ -1,19 +1,33 @@
 -- Writing into a buffer piece by piece.
 -- Assumes nothing.
-use mathlib.Core.Path.{_≡_, refl, _∙_}
-use mathlib.Core.List.{List, [], _++_}
-use Prim.Native.Nat.{ℕ, _+_, _≤_}
+use mathlib.Core.Path.{_≡_, refl, ap, _∙_}
+use mathlib.Core.List.{List, [], _++_, append-assoc, append-nil}
+use Prim.Native.Nat.{ℕ, _+_, _<_, _≤_}
+use native.Mathlib.Nat.{add-assoc, add-zero}
+use native.Mathlib.Decide.{decLe}
 use native.Mathlib.Omega.{arith}
-use lib.ListN.{length, drop, length-append, length-drop}
-use lib.Seq.{take-at, drop-drop, drop-append-add}
-use borrow.Author.Tests.{le-leb}
+use lib.ListN.{length, take, drop, length-append, length-drop, take-append-drop}
+use lib.Seq.{take-at, drop-drop, drop-append-add, length-take-le}
+use borrow.Author.Tests.{le-leb, lt-leb}
 use Rattle.definition.specs.Buffer.{overwriteAt, overwrite, writeWhen, writeAt}
 
 pub overwrite-none : (l : List ℕ) → overwrite [] l ≡ l
 unfolding overwrite
 overwrite-none l = refl
 
--- the next piece behind what was written
+-- the next piece behind one that was written from place i on
+pub overwriteAt-more : (i j : ℕ) (p v l : List ℕ) → i ≤ length l → i + length p ≡ j
+    → overwriteAt j v (overwriteAt i p l) ≡ overwriteAt i (p ++ v) l
+unfolding overwriteAt
+overwriteAt-more i j p v l h e =
+    let q : List ℕ = take i l ++ p in
+    let x : List ℕ = drop (i + length p) l in
+    let n : length q ≡ j = length-append (take i l) p ∙ ap (λ (k : ℕ). k + length p) (length-take-le i l h) ∙ e in
+    let d : drop (j + length v) (q ++ x) ≡ drop (i + length (p ++ v)) l =
+    rw (← n, drop-append-add q x (length v), drop-drop, length-append p v, add-assoc) in
+    rw (take-at q x j n, d, append-assoc (take i l) p v)
+
+-- the next piece behind what was written in front
 pub overwrite-more : (p v l : List ℕ) (i : ℕ) → length p ≡ i → overwriteAt i v (overwrite p l) ≡ overwrite (p ++ v) l
 unfolding overwriteAt overwrite
 overwrite-more p v l i e =
@@ -23,11 +37,49 @@ pub length-overwrite : (p l : List ℕ) → length p ≤ length l → length (ov
 unfolding overwrite
 length-overwrite p l h = omega (arith, length-append p (drop (length p) l), length-drop (length p) l)
 
+pub length-overwriteAt : (i : ℕ) (p l : List ℕ) → i + length p ≤ length l → length (overwriteAt i p l) ≡ length l
+unfolding overwriteAt
+length-overwriteAt i p l h =
+    omega (
+      arith,
+      length-append (take i l ++ p) (drop (i + length p) l),
+      length-append (take i l) p,
+      length-take-le i l (omega arith),
+      length-drop (i + length p) l,
+    )
+
 -- where there is room
 pub write-at : (i : ℕ) (p l : List ℕ) → i + length p ≤ length l → writeAt i p l ≡ overwriteAt i p l
 unfolding writeAt writeWhen
 write-at i p l h = rw (le-leb (i + length p) (length l) h)
 
+-- where there is none
+pub write-not : (i : ℕ) (p l : List ℕ) → length l < i + length p → writeAt i p l ≡ l
+unfolding writeAt writeWhen
+write-not i p l h = rw (lt-leb (i + length p) (length l) h)
+
 pub write-more : (p v l : List ℕ) (i : ℕ) → length p ≡ i → i + length v ≤ length l → writeAt i v (overwrite p l) ≡ overwrite (p ++ v) l
 write-more p v l i e h =
     write-at i v (overwrite p l) (omega (arith, length-overwrite p l (omega arith))) ∙ overwrite-more p v l i e
+
+pub writeAt-more : (i j : ℕ) (p v l : List ℕ) → i + length p ≡ j → j + length v ≤ length l
+    → writeAt j v (writeAt i p l) ≡ writeAt i (p ++ v) l
+writeAt-more i j p v l e h =
+    let n : i + length p ≤ length l = omega arith in
+    let m : i + length (p ++ v) ≤ length l = omega (arith, length-append p v) in
+    rw (write-at i p l n, write-at i (p ++ v) l m, write-at j v (overwriteAt i p l) (rw (length-overwriteAt i p l n) h))
+    (overwriteAt-more i j p v l (omega arith) e)
+
+-- nothing written
+pub write-none : (i : ℕ) (l : List ℕ) → i ≤ length l → writeAt i [] l ≡ l
+unfolding overwriteAt
+write-none i l h =
+    write-at i [] l (omega arith)
+    ∙ rw (add-zero i, append-nil (take i l)) (take-append-drop i l)
+
+pub length-writeAt : (i : ℕ) (p l : List ℕ) → length (writeAt i p l) ≡ length l
+length-writeAt i p l =
+    elim (decLe (i + length p) (length l)) [
+      | yes h ↦ ap length (write-at i p l h) ∙ length-overwriteAt i p l h
+      | no h ↦ ap length (write-not i p l (omega arith))
+    ]

@@ -124,3 +124,19 @@ chain-append w h (m ∷ ms) ns = chain-append w (round w h m) ms ns
 pub counted-snoc : (w : Width) (c : Counted) (ms : List Block) (m : Block)
     → countedChain w c (ms ++ (m ∷ [])) ≡ countedRound w (countedChain w c ms) m
 counted-snoc w c ms m = counted-append w c ms (m ∷ []) ∙ counted-once w (countedChain w c ms) m
+
+-- a chain leaves w blocks
+pub length-chain : (w : Width) (h ms : List Block) → length h ≡ blockCount w → length (chain w h ms) ≡ blockCount w
+unfolding chain
+length-chain w h [] e = e
+length-chain w h (m ∷ ms) e = length-chain w (round w h m) ms (length-round w h m)
+
+-- the blocks after a chain of rounds with their count
+pub counted-blocks : (w : Width) (c : Counted) (ms : List Block)
+    → blocksIn w (countedChain w c ms .state) ≡ chain w (blocksIn w (c .state)) ms
+counted-blocks w c ms =
+    ap (blocksIn w) (counted-state w c ms)
+    ∙ blocks-of-state w (chain w (blocksIn w (c .state)) ms) (length-chain w (blocksIn w (c .state)) ms (length-blocksIn w (c .state)))
+
+pub blocks-of-start : (w : Width) → blocksIn w (stateOf (start w)) ≡ start w
+blocks-of-start w = blocks-of-state w (start w) (length-start w)

@@ -1,7 +1,8 @@
 -- The tables of the codes, at codes that they don't name.
 -- Assumes nothing.
 use mathlib.Core.Path.{_≡_, refl}
-use Prim.Native.Nat.{ℕ, zero, suc}
+use Prim.Native.Nat.{ℕ, zero, suc, _≤_}
+use native.Mathlib.Omega.{arith}
 use Rattle.definition.specs.declared.Width.the-variants.{W3}
 use Rattle.definition.specs.Luffa.{widthAt, wordsAt}
 
@@ -22,3 +23,13 @@ words-other (suc (suc zero)) a b c d = absurd (b refl)
 words-other (suc (suc (suc zero))) a b c d = absurd (c refl)
 words-other (suc (suc (suc (suc zero)))) a b c d = absurd (d refl)
 words-other (suc (suc (suc (suc (suc n))))) a b c d = refl
+
+-- a digest has at most 16 words
+pub words-le : (code : ℕ) → wordsAt code ≤ 16
+unfolding wordsAt
+words-le zero = omega arith
+words-le (suc zero) = omega arith
+words-le (suc (suc zero)) = omega arith
+words-le (suc (suc (suc zero))) = omega arith
+words-le (suc (suc (suc (suc zero)))) = omega arith
+words-le (suc (suc (suc (suc (suc n))))) = omega arith

@@ -11,7 +11,12 @@ pub mod Chain
 pub mod Padding
 pub mod Buffer
 pub mod Codes
+pub mod Refusals
 pub mod Final
+pub mod Feeding
+pub mod Records
+pub mod Bounds
+pub mod Demand2
 pub mod Computed
 pub mod Vectors
 pub mod Sheet

@@ -61,3 +61,11 @@ blockWhen false x = zeroBlock
 
 unfoldable pub firstBlock : List ℕ → Block
 firstBlock x = blockWhen (leb 32 (length x)) x
+
+-- the first word where there are four bytes, else zero
+unfoldable pub wordWhen : Bool → List ℕ → ℕ
+wordWhen true x = wordAt x 0
+wordWhen false x = 0
+
+unfoldable pub firstWord : List ℕ → ℕ
+firstWord x = wordWhen (leb 4 (length x)) x

@@ -65,7 +65,7 @@ decode b =
       state =
           record { h0 = blockIn b 0; h1 = blockIn b 1; h2 = blockIn b 2; h3 = blockIn b 3; h4 = blockIn b 4 };
       pending = take 32 (drop pendingAt b);
-      count = wordAt (drop countAt b) 0 * 2 ^ 32 + wordAt (drop countAt b) 1;
+      count = wordAt (drop countAt b) 0 * 2 ^ 32 + wordAt (drop (countAt + 4) b) 0;
     }
 
 unfoldable pub allZero : List ℕ → Bool

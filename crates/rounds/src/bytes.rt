@@ -2,8 +2,8 @@
 ghost use mathlib.Core.Path.{_≡_};
 ghost use Prim.Native.Nat.{_+_, _≤_};
 ghost use lib.ListN.{length, getD};
-ghost use Rattle.definition.specs.Word.{wordOf, bytesOf};
-ghost use Rattle.definition.specs.Block.{blockOf, firstBlock};
+ghost use Rattle.definition.specs.Word.{wordOf, bytesOf, bytesOfAll};
+ghost use Rattle.definition.specs.Block.{blockOf, firstBlock, firstWord};
 ghost use Rattle.definition.specs.Buffer.{writeAt};
 use definition::Block;
 
@@ -47,6 +47,16 @@ pub fn block(t: &[u8]) -> Block
     full_block(t)
 }
 
+// The first word of a slice, or zero where there are fewer than four bytes.
+pub fn first_word(t: &[u8]) -> u32
+    ensures { λ r. ⌜ r ≡ firstWord (now (t .entry)) ⌝ }
+{
+    if t.len() < 4 {
+        return 0;
+    }
+    word_at(t, 0)
+}
+
 // A word's four bytes, the highest first, from place i on; nothing where there is no room for them.
 pub fn put_word(out: &mut [u8], i: usize, a: u32)
     ensures { λ _. ⌜ now (out .exit) ≡ writeAt i (bytesOf a) (now (out .entry)) ⌝ }
@@ -61,4 +71,20 @@ pub fn put_word(out: &mut [u8], i: usize, a: u32)
     out[i + 1] = (a / 65536 % 256) as u8;
     out[i + 2] = (a / 256 % 256) as u8;
     out[i + 3] = (a % 256) as u8;
+}
+
+// Words, one after the other, from place i on; nothing where there is no room for them.
+pub fn put_words(out: &mut [u8], i: usize, ws: &[u32])
+    ensures { λ _. ⌜ now (out .exit) ≡ writeAt i (bytesOfAll (now (ws .entry))) (now (out .entry)) ⌝ }
+{
+    let n = ws.len();
+    if out.len() < i {
+        return;
+    }
+    if (out.len() - i) / 4 < n {
+        return;
+    }
+    for k in 0..n {
+        put_word(out, i + 4 * k, ws[k]);
+    }
 }

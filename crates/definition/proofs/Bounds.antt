@@ -1,0 +1,249 @@
+-- The words of a state stay words of 32 bits: after a step, a round and a chain of rounds, and in the record that a message leads to.
+-- Assumes nothing.
+use mathlib.Core.Bool.{Bool, true}
+use mathlib.Core.List.{List, [], _∷_}
+use Prim.Native.Nat.{ℕ, zero, suc, _+_, _-_, _*_, _/_, _%_, _^_, _<_, _≤_}
+use native.Mathlib.Nat.{mod-lt, lt-of-le-of-lt, mul-le-mul-right, pow-suc}
+use native.Mathlib.Omega.{arith}
+use lib.Bits.{bitXor, or-lt, xor-lt}
+use lib.Dec.{T, ltb, ltb→lt}
+use lib.ListN.{length, getD}
+use lib.Pow.{pow-pos, shr-le}
+use Rattle.definition.specs.declared.Block.{Block}
+use Rattle.definition.specs.declared.Pair.{Pair}
+use Rattle.definition.specs.declared.Width.{Width}
+use Rattle.definition.specs.declared.Width.the-variants.{W3, W4, W5}
+use Rattle.definition.specs.Word.{bit, fromBits, rotl}
+use Rattle.definition.specs.Block.{zeroBlock, wordsOf}
+use Rattle.definition.specs.SubCrumb.{S, crumb, subWord, subCrumb}
+use Rattle.definition.specs.MixWord.{mixWord}
+use Rattle.definition.specs.Constant.{constantsFrom, constants}
+use Rattle.definition.specs.Permutation.{subCrumbs, mixWords, addConstant, step, steps, tweak, permute}
+use Rattle.definition.specs.Injection.{inject}
+use Rattle.definition.specs.Round.{permuteFrom, round, chain}
+use Rattle.definition.specs.Padding.{blocks}
+use Rattle.definition.specs.Start.{blockCount, startingVariables, start}
+use Rattle.definition.specs.State.{five, stateOf}
+use Rattle.definition.specs.Luffa.{widthAt}
+use Rattle.definition.specs.Record.{wordsOfAll}
+use Rattle.definition.proofs.Bits.{bit-lt}
+use Rattle.definition.proofs.Cases.{both, both-left, both-right, everyBelow, at-below}
+use Rattle.definition.proofs.Chain.{length-inject}
+use Rattle.definition.proofs.Computed.{everything}
+use Rattle.definition.proofs.Feeding.{keptOf}
+
+-- the eight words of a block are words of 32 bits
+pub record Words (b : Block) : Type 0 where
+  pub w0 : b .a0 < 2 ^ 32
+  pub w1 : b .a1 < 2 ^ 32
+  pub w2 : b .a2 < 2 ^ 32
+  pub w3 : b .a3 < 2 ^ 32
+  pub w4 : b .a4 < 2 ^ 32
+  pub w5 : b .a5 < 2 ^ 32
+  pub w6 : b .a6 < 2 ^ 32
+  pub w7 : b .a7 < 2 ^ 32
+
+-- and so those of each block of a list
+pub data AllWords : List Block → Type 0 where
+  none : AllWords []
+  more : {b : Block} {bs : List Block} → Words b → AllWords bs → AllWords (b ∷ bs)
+
+-- both words of a pair of constants
+pub record PairWords (c : Pair) : Type 0 where
+  pub left-word : c .left < 2 ^ 32
+  pub right-word : c .right < 2 ^ 32
+
+-- n bits make a number of n bits
+pub fromBits-lt : (n : ℕ) (f : ℕ → ℕ) → ((l : ℕ) → f l < 2) → fromBits n f < 2 ^ n
+unfolding fromBits
+fromBits-lt zero f h = pow-pos 0
+fromBits-lt (suc n) f h =
+    omega (arith, fromBits-lt n f h, mul-le-mul-right {m = f n} {n = 1} (2 ^ n) (omega (arith, h n)), pow-suc 2 n)
+
+-- a word rotated is a word
+pub rotl-lt : (n a : ℕ) → a < 2 ^ 32 → rotl n a < 2 ^ 32
+unfolding rotl
+rotl-lt n a h =
+    or-lt 32 (a * 2 ^ n % 2 ^ 32) (a / 2 ^ (32 - n)) (mod-lt (a * 2 ^ n) (pow-pos 32)) (lt-of-le-of-lt (shr-le a (32 - n)) h)
+
+-- SubCrumb gives words, whatever it is given
+subWord-lt : (k a0 a1 a2 a3 : ℕ) → subWord k a0 a1 a2 a3 < 2 ^ 32
+unfolding subWord
+subWord-lt k a0 a1 a2 a3 = fromBits-lt 32 (λ l. bit k (S (crumb a0 a1 a2 a3 l))) (λ l. bit-lt k (S (crumb a0 a1 a2 a3 l)))
+
+sub-words : (a : Block) → Words (subCrumbs a)
+unfolding subCrumbs subCrumb
+sub-words a =
+    record {
+      w0 = subWord-lt 0 (a .a0) (a .a1) (a .a2) (a .a3);
+      w1 = subWord-lt 1 (a .a0) (a .a1) (a .a2) (a .a3);
+      w2 = subWord-lt 2 (a .a0) (a .a1) (a .a2) (a .a3);
+      w3 = subWord-lt 3 (a .a0) (a .a1) (a .a2) (a .a3);
+      w4 = subWord-lt 3 (a .a5) (a .a6) (a .a7) (a .a4);
+      w5 = subWord-lt 0 (a .a5) (a .a6) (a .a7) (a .a4);
+      w6 = subWord-lt 1 (a .a5) (a .a6) (a .a7) (a .a4);
+      w7 = subWord-lt 2 (a .a5) (a .a6) (a .a7) (a .a4);
+    }
+
+-- MixWord gives words from words
+mix-words : (x0 x4 : ℕ) → x0 < 2 ^ 32 → x4 < 2 ^ 32 → PairWords (mixWord x0 x4)
+unfolding mixWord
+mix-words x0 x4 h0 h4 =
+    let y4 : ℕ = bitXor x4 x0 in
+    let k4 : y4 < 2 ^ 32 = xor-lt 32 x4 x0 h4 h0 in
+    let y0 : ℕ = bitXor (rotl 2 x0) y4 in
+    let k0 : y0 < 2 ^ 32 = xor-lt 32 (rotl 2 x0) y4 (rotl-lt 2 x0 h0) k4 in
+    let z4 : ℕ = bitXor (rotl 14 y4) y0 in
+    let l4 : z4 < 2 ^ 32 = xor-lt 32 (rotl 14 y4) y0 (rotl-lt 14 y4 k4) k0 in
+    record { left-word = xor-lt 32 (rotl 10 y0) z4 (rotl-lt 10 y0 k0) l4; right-word = rotl-lt 1 z4 l4 }
+
+mixed-words : (x : Block) → Words x → Words (mixWords x)
+unfolding mixWords
+mixed-words x h =
+    let y0 : PairWords (mixWord (x .a0) (x .a4)) = mix-words (x .a0) (x .a4) (h .w0) (h .w4) in
+    let y1 : PairWords (mixWord (x .a1) (x .a5)) = mix-words (x .a1) (x .a5) (h .w1) (h .w5) in
+    let y2 : PairWords (mixWord (x .a2) (x .a6)) = mix-words (x .a2) (x .a6) (h .w2) (h .w6) in
+    let y3 : PairWords (mixWord (x .a3) (x .a7)) = mix-words (x .a3) (x .a7) (h .w3) (h .w7) in
+    record {
+      w0 = y0 .left-word;
+      w1 = y1 .left-word;
+      w2 = y2 .left-word;
+      w3 = y3 .left-word;
+      w4 = y0 .right-word;
+      w5 = y1 .right-word;
+      w6 = y2 .right-word;
+      w7 = y3 .right-word;
+    }
+
+add-words : (c : Pair) (y : Block) → PairWords c → Words y → Words (addConstant c y)
+unfolding addConstant
+add-words c y k h =
+    record {
+      w0 = xor-lt 32 (y .a0) (c .left) (h .w0) (k .left-word);
+      w1 = h .w1;
+      w2 = h .w2;
+      w3 = h .w3;
+      w4 = xor-lt 32 (y .a4) (c .right) (h .w4) (k .right-word);
+      w5 = h .w5;
+      w6 = h .w6;
+      w7 = h .w7;
+    }
+
+-- a step with constants that are words gives words, from any block
+pub step-words : (c : Pair) (a : Block) → PairWords c → Words (step c a)
+unfolding step
+step-words c a k = add-words c (mixWords (subCrumbs a)) k (mixed-words (subCrumbs a) (sub-words a))
+
+-- the words of each pair of a list
+abbrev pub AllPairs : List Pair → Type 0
+AllPairs [] = Unit
+AllPairs (c ∷ cs) = PairWords c × AllPairs cs
+
+-- and as a test
+abbrev pairTest : Pair → Bool
+pairTest c = both (ltb (c .left) (2 ^ 32)) (ltb (c .right) (2 ^ 32))
+
+abbrev pairsTest : List Pair → Bool
+pairsTest [] = true
+pairsTest (c ∷ cs) = both (pairTest c) (pairsTest cs)
+
+pair-words : (c : Pair) → T (pairTest c) → PairWords c
+pair-words c t =
+    let a : Bool = ltb (c .left) (2 ^ 32) in
+    let b : Bool = ltb (c .right) (2 ^ 32) in
+    record {
+      left-word = ltb→lt (c .left) (2 ^ 32) (both-left a b t);
+      right-word = ltb→lt (c .right) (2 ^ 32) (both-right a b t);
+    }
+
+pairs-words : (cs : List Pair) → T (pairsTest cs) → AllPairs cs
+pairs-words [] t = tt
+pairs-words (c ∷ cs) t =
+    (pair-words c (both-left (pairTest c) (pairsTest cs) t), pairs-words cs (both-right (pairTest c) (pairsTest cs) t))
+
+-- the constants of the five blocks are words
+pub constants-words : (j : ℕ) → j < 5 → AllPairs (constants j)
+constants-words j h = pairs-words (constants j) (at-below 5 (λ j. pairsTest (constants j)) computed j h)
+  where
+    computed : T (everyBelow 5 (λ j. pairsTest (constants j)))
+    computed = unfold everything in tt
+
+-- one step at least gives words, from any block
+steps-words : (c : Pair) (cs : List Pair) (a : Block) → AllPairs (c ∷ cs) → Words (steps (c ∷ cs) a)
+unfolding steps
+steps-words c [] a k = step-words c a (k .0)
+steps-words c (d ∷ cs) a k = steps-words d cs (step c a) (k .1)
+
+-- Q_j gives words, from any block
+pub permute-words : (j : ℕ) (b : Block) → j < 5 → Words (permute j b)
+unfolding permute constants constantsFrom
+permute-words j b h = steps-words _ _ (tweak j b) (constants-words j h)
+
+permuted-words : (j : ℕ) (xs : List Block) → j + length xs ≤ 5 → AllWords (permuteFrom j xs)
+unfolding permuteFrom
+permuted-words j [] h = none
+permuted-words j (x ∷ xs) h = more (permute-words j x (omega arith)) (permuted-words (suc j) xs (omega arith))
+
+count-le : (w : Width) → blockCount w ≤ 5
+unfolding blockCount
+count-le W3 = omega arith
+count-le W4 = omega arith
+count-le W5 = omega arith
+
+-- a round gives words, from any blocks
+pub round-words : (w : Width) (h : List Block) (m : Block) → AllWords (round w h m)
+unfolding round
+round-words w h m = permuted-words 0 (inject w h m) (omega (arith, length-inject w h m, count-le w))
+
+-- a chain of rounds gives words from words
+pub chain-words : (w : Width) (h ms : List Block) → AllWords h → AllWords (chain w h ms)
+unfolding chain
+chain-words w h [] k = k
+chain-words w h (m ∷ ms) k = chain-words w (round w h m) ms (round-words w h m)
+
+-- the starting variables are words
+abbrev Each : List Block → Type 0
+Each [] = Unit
+Each (b ∷ bs) = Words b × Each bs
+
+each-words : (bs : List Block) → Each bs → AllWords bs
+each-words [] e = none
+each-words (b ∷ bs) e = more (e .0) (each-words bs (e .1))
+
+pub start-words : (w : Width) → AllWords (start w)
+unfolding start startingVariables blockCount
+start-words W3 = each-words (start W3) (omega arith)
+start-words W4 = each-words (start W4) (omega arith)
+start-words W5 = each-words (start W5) (omega arith)
+
+-- a state's blocks are words, those that stand for zero too
+at-words : {h : List Block} → AllWords h → (j : ℕ) → Words (getD h j zeroBlock)
+at-words none zero = omega arith
+at-words none (suc j) = omega arith
+at-words (more k r) zero = k
+at-words (more k r) (suc j) = at-words r j
+
+five-words : {h : List Block} → AllWords h → AllWords (five (stateOf h))
+unfolding five stateOf
+five-words k = more (at-words k 0) (more (at-words k 1) (more (at-words k 2) (more (at-words k 3) (more (at-words k 4) none))))
+
+-- each word of a list of blocks
+pub word-in : {bs : List Block} → AllWords bs → (i : ℕ) → getD (wordsOfAll bs) i 0 < 2 ^ 32
+unfolding wordsOfAll wordsOf
+word-in none i = pow-pos 32
+word-in (more k r) zero = k .w0
+word-in (more k r) (suc zero) = k .w1
+word-in (more k r) (suc (suc zero)) = k .w2
+word-in (more k r) (suc (suc (suc zero))) = k .w3
+word-in (more k r) (suc (suc (suc (suc zero)))) = k .w4
+word-in (more k r) (suc (suc (suc (suc (suc zero))))) = k .w5
+word-in (more k r) (suc (suc (suc (suc (suc (suc zero)))))) = k .w6
+word-in (more k r) (suc (suc (suc (suc (suc (suc (suc zero))))))) = k .w7
+word-in (more k r) (suc (suc (suc (suc (suc (suc (suc (suc i)))))))) = word-in r i
+
+-- the state's words in the record that a message leads to
+pub kept-words : (code : ℕ) (x : List ℕ) (i : ℕ) → getD (wordsOfAll (five (keptOf code x .state))) i 0 < 2 ^ 32
+unfolding keptOf
+kept-words code x =
+    let w : Width = widthAt code in
+    word-in (five-words (chain-words w (start w) (blocks x) (start-words w)))

@@ -1,0 +1,59 @@
+-- The answer to a call is the first refusal whose condition holds, and a refused call alters nothing: one law for all calls.
+-- Assumes nothing.
+use mathlib.Core.Path.{_≡_, refl, sym, ap, ap₂, _∙_}
+use mathlib.Core.Bool.{Bool, true, false}
+use mathlib.Core.List.{List, [], _∷_}
+use Prim.Native.Nat.{ℕ, zero, suc}
+use native.Mathlib.Omega.{arith}
+use Rattle.definition.specs.Refusal.{Refusal, pick, firstOf}
+use Rattle.definition.specs.Calls.{Outcome, whenDone, outcome}
+
+-- k is refused first: its condition holds, and none ranked before it
+pub data First (k : ℕ) : List Refusal → Type 0 where
+  here : {rs : List Refusal} → First k ((k, true) ∷ rs)
+  later : {n : ℕ} {rs : List Refusal} → First k rs → First k ((n, false) ∷ rs)
+
+-- no condition holds
+pub data NoneHolds : List Refusal → Type 0 where
+  none : NoneHolds []
+  more : {n : ℕ} {rs : List Refusal} → NoneHolds rs → NoneHolds ((n, false) ∷ rs)
+
+-- the numbers of a list of refusals are not 0
+pub data Numbered : List Refusal → Type 0 where
+  none : Numbered []
+  more : {n : ℕ} {b : Bool} {rs : List Refusal} → Numbered rs → Numbered ((suc n, b) ∷ rs)
+
+-- a number is given exactly when its condition holds and none ranked before it does
+pub first-given : {k : ℕ} {rs : List Refusal} → First k rs → firstOf rs ≡ k
+unfolding firstOf pick
+first-given here = refl
+first-given (later f) = first-given f
+
+pub given-first : {k : ℕ} (rs : List Refusal) → firstOf rs ≡ suc k → First (suc k) rs
+unfolding firstOf pick
+given-first [] e = absurd (omega arith)
+given-first {k} ((n, true) ∷ rs) e = rw e here
+given-first ((n, false) ∷ rs) e = later (given-first rs e)
+
+-- 0 is given exactly when none holds
+pub none-given : {rs : List Refusal} → NoneHolds rs → firstOf rs ≡ 0
+unfolding firstOf pick
+none-given none = refl
+none-given (more h) = none-given h
+
+pub given-none : {rs : List Refusal} → Numbered rs → firstOf rs ≡ 0 → NoneHolds rs
+unfolding firstOf pick
+given-none none e = none
+given-none (more {b = true} h) e = absurd (omega arith)
+given-none (more {b = false} h) e = more (given-none h e)
+
+-- a refused call's buffer is as at entry; an accepted call's is what the call makes of it
+pub refused : (rs : List Refusal) (done before : List ℕ) (k : ℕ) → firstOf rs ≡ suc k
+    → record { number = suc k; buffer = before } ≡ outcome rs done before
+unfolding outcome whenDone
+refused rs done before k e = rw e
+
+pub accepted : (rs : List Refusal) (done before : List ℕ) → firstOf rs ≡ 0
+    → record { number = 0; buffer = done } ≡ outcome rs done before
+unfolding outcome whenDone
+accepted rs done before e = rw e

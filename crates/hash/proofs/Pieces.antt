@@ -1,0 +1,137 @@
+-- A piece fed to a record: what stays pending, what completes the pending block, and what comes after it.
+-- Assumes nothing.
+use mathlib.Core.Path.{_≡_, refl, sym, ap, ap₂, _∙_}
+use mathlib.Core.Bool.{Bool, true}
+use mathlib.Core.List.{List, [], _∷_, _++_, append-assoc, append-nil}
+use Prim.Native.Nat.{ℕ, zero, suc, _+_, _-_, _*_, _/_, _%_, _<_, _≤_}
+use native.Mathlib.Nat.{zero-add}
+use native.Mathlib.Omega.{arith}
+use lib.ListN.{length, take, drop, replicate, length-append, length-drop, length-replicate, length-take, take-append-drop, drop-of-length-le}
+use lib.Seq.{length-take-le, drop-drop, drop-append-add}
+use Rattle.definition.specs.declared.Block.{Block}
+use Rattle.definition.specs.declared.Kept.{Kept}
+use Rattle.definition.specs.declared.State.{State}
+use Rattle.definition.specs.declared.Width.{Width}
+use Rattle.definition.specs.Round.{chain}
+use Rattle.definition.specs.Padding.{blocks, rest}
+use Rattle.definition.specs.State.{blocksIn, stateOf}
+use Rattle.definition.specs.Buffer.{overwriteAt}
+use Rattle.definition.specs.Luffa.{widthAt}
+use Rattle.definition.specs.Record.{allZero, filled, pendingCount, pendingBytes, wellKept, fed}
+use Rattle.definition.proofs.Chain.{chain-append, length-chain, length-blocksIn, blocks-of-state}
+use Rattle.definition.proofs.Padding.{blocks-none, blocks-append, rest-short}
+use Rattle.definition.proofs.Feeding.{zeros, well-kept}
+
+-- nothing pending, and so no front
+pub empty-front : (w : Width) (s : State) (p front : List ℕ) (pos : ℕ) → pos ≡ 0 → length front ≡ (32 - pos) % 32
+    → stateOf (blocksIn w s) ≡ stateOf (chain w (blocksIn w s) (blocks (take pos p ++ front)))
+unfolding chain
+empty-front w s p front pos z e =
+    rw z (rw (blocks-none front (omega arith)) refl)
+
+-- the front fills the pending block
+pub full-front : (p front : List ℕ) (pos : ℕ) → length p ≡ 32 → pos + length front ≡ 32 → overwriteAt pos front p ≡ take pos p ++ front
+unfolding overwriteAt
+full-front p front pos e h = rw (h, drop-of-length-le p {i = 32} (omega arith)) (append-nil (take pos p ++ front))
+
+-- what is left after whole blocks
+rest-append : (n : ℕ) (y t : List ℕ) → length y ≡ n * 32 → rest (y ++ t) ≡ rest t
+unfolding rest
+rest-append n y t e =
+    let m : length (y ++ t) / 32 * 32 ≡ length y + length t / 32 * 32 = omega (arith, length-append y t) in
+    ap (λ (k : ℕ). drop k (y ++ t)) m ∙ drop-append-add y t (length t / 32 * 32)
+
+zero-by : (n m : ℕ) → n ≡ m → _≡_ {A = List ℕ} (replicate n 0) (replicate m 0)
+zero-by n m e = ap (λ (k : ℕ). replicate k 0) e
+
+drop-zeros : (n m : ℕ) → drop {A = ℕ} n (replicate m 0) ≡ replicate (m - n) 0
+drop-zeros zero m = zero-by m (m - 0) (omega arith)
+drop-zeros (suc n) zero = zero-by 0 (0 - suc n) (omega arith)
+drop-zeros (suc n) (suc m) = drop-zeros n m ∙ zero-by (m - n) (suc m - suc n) (omega arith)
+
+-- bytes over zeros
+zero-paste : (r : List ℕ) → overwriteAt 0 r (replicate 32 0) ≡ filled r
+unfolding overwriteAt filled
+zero-paste r = rw (drop-zeros (0 + length r) 32, zero-add (length r))
+
+-- the zeros after the pending bytes and a piece
+after-piece : (p piece : List ℕ) (pos : ℕ) → length p ≡ 32 → allZero (drop pos p) ≡ true → pos + length piece ≤ 32
+    → drop (pos + length piece) p ≡ replicate (32 - length (take pos p ++ piece)) 0
+after-piece p piece pos e z h =
+    let n : length (drop pos p) - length piece ≡ 32 - length (take pos p ++ piece) =
+    omega (arith, length-drop pos p, length-append (take pos p) piece, length-take-le pos p (omega arith)) in
+    sym (drop-drop (length piece) pos p) ∙ ap (drop (length piece)) (zeros (drop pos p) z)
+    ∙ drop-zeros (length piece) (length (drop pos p))
+    ∙ zero-by _ _ n
+
+-- a piece that stays pending
+pub stays : (k : Kept) (piece : List ℕ) → length (k .pending) ≡ 32 → wellKept k ≡ true → length piece < 32 - k .count % 32
+    → record {
+      code = k .code;
+      state = stateOf (blocksIn (widthAt (k .code)) (k .state));
+      pending = overwriteAt (k .count % 32) piece (k .pending);
+      count = k .count + length piece;
+    }
+    ≡ fed k piece
+unfolding fed pendingBytes pendingCount overwriteAt filled chain
+stays k piece e h n =
+    let pos : ℕ = k .count % 32 in
+    let p : List ℕ = k .pending in
+    let x : List ℕ = take pos p ++ piece in
+    let l : length x < 32 = omega (arith, length-append (take pos p) piece, length-take-le pos p (omega arith)) in
+    rw (blocks-none x l, rest-short x l, after-piece p piece pos e (unfold pendingCount in well-kept k h .after) (omega arith))
+
+-- the front and the rest of a piece that completes the pending block
+front : (p piece : List ℕ) (pos : ℕ) → List ℕ
+front p piece pos = take pos p ++ take ((32 - pos) % 32) piece
+
+front-length : (p piece : List ℕ) (pos : ℕ) → length p ≡ 32 → pos < 32 → 32 - pos ≤ length piece
+    → length (front p piece pos) ≡ (pos + 31) / 32 * 32
+unfolding front
+front-length p piece pos e h n =
+    omega (
+      arith,
+      length-append (take pos p) (take ((32 - pos) % 32) piece),
+      length-take-le pos p (omega arith),
+      length-take-le ((32 - pos) % 32) piece (omega arith),
+    )
+
+front-rest : (p piece : List ℕ) (pos : ℕ) → take pos p ++ piece ≡ front p piece pos ++ drop ((32 - pos) % 32) piece
+unfolding front
+front-rest p piece pos =
+    ap (λ (l : List ℕ). take pos p ++ l) (sym (take-append-drop ((32 - pos) % 32) piece))
+    ∙ sym (append-assoc (take pos p) (take ((32 - pos) % 32) piece) (drop ((32 - pos) % 32) piece))
+
+-- a chain over both
+both-chained : (w : Width) (s : State) (x y : List Block)
+    → chain w (blocksIn w (stateOf (chain w (blocksIn w s) x))) y ≡ chain w (blocksIn w s) (x ++ y)
+both-chained w s x y =
+    rw (blocks-of-state w (chain w (blocksIn w s) x) (length-chain w (blocksIn w s) x (length-blocksIn w s)))
+    (sym (chain-append w (blocksIn w s) x y))
+
+-- a piece that completes the pending block
+pub completes : (k : Kept) (piece : List ℕ) → length (k .pending) ≡ 32 → 32 - k .count % 32 ≤ length piece
+    → (s : State)
+    → s ≡ stateOf (chain (widthAt (k .code)) (blocksIn (widthAt (k .code)) (k .state)) (blocks (take (k .count % 32) (k .pending) ++ take ((32 - k .count % 32) % 32) piece)))
+    → record {
+      code = k .code;
+      state = stateOf (chain (widthAt (k .code)) (blocksIn (widthAt (k .code)) s) (blocks (drop ((32 - k .count % 32) % 32) piece)));
+      pending = overwriteAt 0 (rest (drop ((32 - k .count % 32) % 32) piece)) (replicate 32 0);
+      count = k .count + length piece;
+    }
+    ≡ fed k piece
+unfolding fed pendingBytes pendingCount front
+completes k piece e n s f =
+    let pos : ℕ = k .count % 32 in
+    let p : List ℕ = k .pending in
+    let y : List ℕ = front p piece pos in
+    let t : List ℕ = drop ((32 - pos) % 32) piece in
+    let l : length y ≡ (pos + 31) / 32 * 32 = front-length p piece pos e (omega arith) n in
+    rw (
+      front-rest p piece pos,
+      blocks-append ((pos + 31) / 32) y t l,
+      rest-append ((pos + 31) / 32) y t l,
+      f,
+      both-chained (widthAt (k .code)) (k .state) (blocks y) (blocks t),
+      zero-paste (rest t),
+    )

@@ -1,0 +1,76 @@
+-- `hash::record::put_bytes` meets its contract. The loop's invariant: the first j bytes are copied.
+-- Assumes nothing.
+use mathlib.Core.Path.{_≡_, refl, sym, ap, _∙_}
+use mathlib.Core.List.{List, _++_}
+use Prim.Native.Nat.{ℕ, suc, _+_, _-_, _^_, _<_, _≤_}
+use native.Mathlib.Numerals.{add-one}
+use native.Mathlib.Omega.{arith}
+use denote.Ref.{now}
+use lib.ListN.{length, take, drop, length-set}
+use lib.Seq.{paste, paste-zero, paste-suc, length-paste, take-length}
+use Rattle.definition.specs.Buffer.{overwriteAt}
+use Rattle.hash.proofs.record.put_bytes.Statement.{statement}
+use Rattle.hash.proofs.record.put_bytes.Tie as tie
+
+abbrev Inv-loop : tie.InvT-loop
+Inv-loop b₀ i t j₀ b j =
+    (j ≤ length t) × ((i + length t ≤ length b₀) × (length b₀ < 2 ^ 64)) × (b ≡ paste b₀ i t j)
+
+abbrev μ-loop : tie.MeasureT-loop
+μ-loop b₀ i t j₀ b j = length t - j
+
+loop-holds : tie.Need-loop-holds Inv-loop μ-loop
+loop-holds c =
+    let a = c .args in
+    (omega arith, (omega arith, omega arith), paste-zero (now (a .b)) (a .i) (now (a .t)))
+
+-- a buffer into which bytes were copied has its length
+kept-length : (b b₀ t : List ℕ) (i j : ℕ) → j ≤ length t → i + length t ≤ length b₀ → b ≡ paste b₀ i t j → length b ≡ length b₀
+kept-length b b₀ t i j h r e = ap length e ∙ length-paste b₀ i t j (omega arith) h
+
+slice-write-b : tie.Need-slice-write-b Inv-loop μ-loop
+slice-write-b c =
+    let a = c .before .before .before .args in
+    let l = c .before .before .loop in
+    let e : length (l .b) ≡ length (now (a .b)) =
+    kept-length (l .b) (now (a .b)) (now (a .t)) (a .i) (l .j) (omega arith) (omega arith) (l .inv .2) in
+    omega arith
+
+loop-again : tie.Need-loop-again Inv-loop μ-loop
+loop-again c =
+    let a = c .before .before .before .args in
+    let l = c .before .before .loop in (
+      omega arith,
+      l .inv .1,
+      rw (add-one (l .j), l .inv .2) (paste-suc (now (a .b)) (a .i) (now (a .t)) (l .j) 0 (omega arith) (omega arith)),
+    )
+
+same-length : tie.Need-same-length Inv-loop μ-loop
+same-length c =
+    let l = c .before .loop in
+    let a = c .before .before .args in
+    kept-length (l .b) (now (a .b)) (now (a .t)) (a .i) (l .j) (omega arith) (omega arith) (l .inv .2)
+
+returns : tie.Need-returns Inv-loop μ-loop
+unfolding overwriteAt
+returns c =
+    let t = now (c .before .before .args .t) in
+    let l = c .before .loop in
+    let e : l .j ≡ length t = omega arith in
+    rw (e, take-length t) at (l .inv .2)
+
+pub put-bytes-spec : {M : Type 1} → statement M
+put-bytes-spec =
+    tie.close
+    (tie.spec
+    Inv-loop
+    μ-loop
+    loop-holds
+    (λ c. omega arith)
+    (λ c. omega arith)
+    slice-write-b
+    (λ c. omega arith)
+    (λ c. omega arith)
+    loop-again
+    same-length
+    returns)

@@ -1,0 +1,32 @@
+/* The header with nothing before it: its values, the types of its functions, and, as it is compiled
+   as C11 and as C++17 and linked with the archive, their C names in both. */
+#include <luffa.h>
+
+#ifdef __cplusplus
+#define HOLDS(fact) static_assert(fact, #fact)
+#else
+#define HOLDS(fact) _Static_assert(fact, #fact)
+#endif
+
+HOLDS(LUFFA_224 == 1 && LUFFA_256 == 2 && LUFFA_384 == 3 && LUFFA_512 == 4);
+HOLDS(LUFFA_224_BYTES == 28 && LUFFA_256_BYTES == 32 && LUFFA_384_BYTES == 48 && LUFFA_512_BYTES == 64);
+HOLDS(LUFFA_RECORD_BYTES == 208);
+HOLDS(LUFFA_LIMIT == ((uint64_t)1 << 61) - 1);
+HOLDS(LUFFA_DONE == 0 && LUFFA_WIDTH == 1 && LUFFA_OUT == 2 && LUFFA_RECORD == 3 && LUFFA_LONG == 4);
+HOLDS(LUFFA_SHEET == 5 && LUFFA_MARKS == 6 && LUFFA_PLACE == 7 && LUFFA_FULL == 8 && LUFFA_SIZE == 9);
+HOLDS(LUFFA_CLAIM == 10 && LUFFA_STALE == 11);
+
+static uint32_t (*const digest)(size_t, const uint8_t *, size_t, uint8_t *, size_t) = luffa_digest;
+static uint32_t (*const start)(size_t, uint8_t *, size_t) = luffa_start;
+static uint32_t (*const feed)(uint8_t *, size_t, const uint8_t *, size_t) = luffa_feed;
+static uint32_t (*const finish)(const uint8_t *, size_t, uint8_t *, size_t) = luffa_finish;
+
+int main(void)
+{
+    uint8_t record[LUFFA_RECORD_BYTES], out[LUFFA_512_BYTES];
+
+    return digest(LUFFA_224, NULL, 0, out, sizeof out) != LUFFA_DONE ||
+           start(LUFFA_512, record, sizeof record) != LUFFA_DONE ||
+           feed(record, sizeof record, NULL, 0) != LUFFA_DONE ||
+           finish(record, sizeof record, out, sizeof out) != LUFFA_DONE;
+}

@@ -1,0 +1,41 @@
+/* The refusals of luffa_digest and luffa_start, in their order. Those of luffa_feed and luffa_finish
+   are in malformed.c (3, also before 4 and before 2), limit.c (4) and digests.c (2).
+   luffa_digest's 4 can't be had: no machine can lend a message of over 2^61 - 1 bytes. */
+#include "test.h"
+
+/* Codes that aren't 1 to 4, among them such as are once they are cut to 8, 16 or 32 bits. */
+static const size_t unknown[] = {
+    0,           5,
+    6,           7,
+    8,           255,
+    256,         257,
+    260,         65536 + 2,
+    1u << 31,    (size_t)1 << 32,
+    4294967297u, 4294967300u,
+    1ul << 63,   (1ul << 63) + 1,
+    SIZE_MAX,    SIZE_MAX - 2,
+};
+
+int main(void)
+{
+    static const size_t message_lens[] = {0, 1, 32, 100};
+    uint8_t message[100], record[LUFFA_RECORD_BYTES];
+
+    fill(message, sizeof message);
+    for (size_t i = 0; i < sizeof unknown / sizeof *unknown; i++) {
+        /* An unknown code has no digest length, so that no buffer is too short for it. */
+        for (size_t out_len = 0; out_len <= 100; out_len++)
+            for (size_t m = 0; m < 4; m++)
+                digest_call(LUFFA_WIDTH, unknown[i], message, message_lens[m], out_len, NULL);
+        for (size_t record_len = 0; record_len <= 2 * LUFFA_RECORD_BYTES; record_len++)
+            start_call(LUFFA_WIDTH, unknown[i], record_len, NULL);
+    }
+    for (size_t code = 1; code <= 4; code++) {
+        for (size_t out_len = 0; out_len < digest_bytes[code]; out_len++)
+            for (size_t m = 0; m < 4; m++)
+                digest_call(LUFFA_OUT, code, message, message_lens[m], out_len, NULL);
+        for (size_t record_len = 0; record_len <= 2 * LUFFA_RECORD_BYTES; record_len++)
+            start_call(record_len == LUFFA_RECORD_BYTES ? LUFFA_DONE : LUFFA_RECORD, code, record_len, record);
+    }
+    return 0;
+}

@@ -1,0 +1,229 @@
+/* The functions of test.h. */
+#define _DEFAULT_SOURCE /* MAP_ANONYMOUS */
+#include "test.h"
+#include <stdarg.h>
+#include <sys/mman.h>
+
+void check(int holds, const char *words, ...)
+{
+    va_list arguments;
+
+    if (holds)
+        return;
+    va_start(arguments, words);
+    vprintf(words, arguments);
+    va_end(arguments);
+    putchar('\n');
+    exit(1);
+}
+
+/* xorshift */
+static uint8_t any_byte(void)
+{
+    static uint64_t x = 0x0123456789abcdef;
+
+    x ^= x << 13;
+    x ^= x >> 7;
+    x ^= x << 17;
+    return (uint8_t)(x >> 56);
+}
+
+void fill(uint8_t *bytes, size_t n)
+{
+    for (size_t i = 0; i < n; i++)
+        bytes[i] = any_byte();
+}
+
+/* ---- Lent buffers. */
+
+enum { PAGE = 4096, ROOM = 16 * PAGE, EDGE = 64 };
+
+struct lent {
+    uint8_t *room; /* ROOM bytes between two pages that can't be touched */
+    uint8_t *bytes;
+    size_t n;
+    uint8_t was[ROOM]; /* what is watched, as it was lent */
+};
+
+/* What is watched: the lent bytes, and those of the room up to EDGE before and after them. */
+static size_t watched(const struct lent *l, uint8_t **from)
+{
+    size_t before = (size_t)(l->bytes - l->room), after = ROOM - before - l->n;
+
+    before = before < EDGE ? before : EDGE;
+    after = after < EDGE ? after : EDGE;
+    *from = l->bytes - before;
+    return before + l->n + after;
+}
+
+/* Lends a copy of n bytes, or any n bytes where there are none to copy. As it falls, they stand
+   against the page before the room, against the one after it, so that an access outside them is seen
+   on either side, or at any address between. A buffer of no bytes may be a null pointer. */
+static uint8_t *lend(struct lent *l, const uint8_t *bytes, size_t n)
+{
+    uint8_t place = any_byte(), *from;
+
+    check(n <= ROOM - 2 * EDGE, "a test lends %zu bytes", n);
+    if (l->room == NULL) {
+        uint8_t *pages = mmap(NULL, PAGE + ROOM + PAGE, PROT_NONE, MAP_PRIVATE | MAP_ANONYMOUS, -1, 0);
+        check(pages != MAP_FAILED && mprotect(pages + PAGE, ROOM, PROT_READ | PROT_WRITE) == 0, "no memory");
+        l->room = pages + PAGE;
+        fill(l->room, ROOM);
+    }
+    switch (place % 3) {
+    case 0:
+        l->bytes = l->room;
+        break;
+    case 1:
+        l->bytes = l->room + ROOM - n;
+        break;
+    default:
+        l->bytes = l->room + EDGE + place % EDGE;
+    }
+    l->n = n;
+    if (bytes == NULL)
+        fill(l->bytes, n);
+    else
+        memcpy(l->bytes, bytes, n);
+    size_t all = watched(l, &from);
+    memcpy(l->was, from, all);
+    return n == 0 && place % 3 == 0 ? NULL : l->bytes;
+}
+
+/* Whether nothing changed but, perhaps, the first `written` bytes. */
+static int kept(const struct lent *l, size_t written)
+{
+    uint8_t *from;
+    size_t all = watched(l, &from), before = (size_t)(l->bytes - from);
+
+    return memcmp(from, l->was, before) == 0 &&
+           memcmp(l->bytes + written, l->was + before + written, all - before - written) == 0;
+}
+
+/* Whether the number is the one wanted; where it isn't, prints the record that was lent. */
+static int answered(uint32_t got, uint32_t want, const struct lent *record)
+{
+    uint8_t *from;
+
+    watched(record, &from);
+    for (size_t i = 0; got != want && i < record->n; i++)
+        printf("%02x%s", record->was[record->bytes - from + (ptrdiff_t)i], i + 1 < record->n ? "" : "\n");
+    return got == want;
+}
+
+/* ---- Records. */
+
+const size_t digest_bytes[5] = {0, LUFFA_224_BYTES, LUFFA_256_BYTES, LUFFA_384_BYTES, LUFFA_512_BYTES};
+const size_t state_bytes[5] = {0, 96, 96, 128, 160};
+
+uint64_t count_of(const uint8_t *record)
+{
+    uint64_t count = 0;
+
+    for (size_t i = 0; i < 8; i++)
+        count = count << 8 | record[COUNT + i];
+    return count;
+}
+
+void set_count(uint8_t *record, uint64_t count)
+{
+    for (size_t i = 0; i < 8; i++)
+        record[COUNT + i] = (uint8_t)(count >> (56 - 8 * i));
+}
+
+void any_record(uint8_t *record, size_t code, uint64_t count)
+{
+    memset(record, 0, LUFFA_RECORD_BYTES);
+    record[0] = (uint8_t)code;
+    fill(record + STATE, state_bytes[code]);
+    fill(record + PENDING, count % 32);
+    set_count(record, count);
+}
+
+static int zeros(const uint8_t *bytes, size_t n)
+{
+    for (size_t i = 0; i < n; i++)
+        if (bytes[i] != 0)
+            return 0;
+    return 1;
+}
+
+/* ---- The calls. */
+
+void digest_call(uint32_t want, size_t code, const uint8_t *message, size_t message_len, size_t out_len,
+                 uint8_t *digest)
+{
+    static struct lent m, o;
+    uint8_t *in = lend(&m, message, message_len), *out = lend(&o, NULL, out_len);
+    size_t written = want == LUFFA_DONE ? digest_bytes[code] : 0;
+
+    uint32_t got = luffa_digest(code, in, message_len, out, out_len);
+    check(got == want, "digest of %zu bytes at code %zu into %zu bytes: answered %u, wanted %u", message_len, code,
+          out_len, got, want);
+    check(kept(&m, 0) && kept(&o, written),
+          "digest of %zu bytes at code %zu into %zu bytes, answer %u: wrote outside the digest", message_len, code,
+          out_len, got);
+    if (digest != NULL)
+        memcpy(digest, o.bytes, written);
+}
+
+void start_call(uint32_t want, size_t code, size_t record_len, uint8_t *record)
+{
+    static struct lent r;
+    uint8_t *lent = lend(&r, NULL, record_len);
+
+    uint32_t got = luffa_start(code, lent, record_len);
+    check(got == want, "start at code %zu in %zu bytes: answered %u, wanted %u", code, record_len, got, want);
+    check(kept(&r, want == LUFFA_DONE ? LUFFA_RECORD_BYTES : 0),
+          "start at code %zu in %zu bytes, answer %u: wrote outside the record", code, record_len, got);
+    if (want != LUFFA_DONE)
+        return;
+    size_t unused = STATE + state_bytes[code];
+    check(lent[0] == code && zeros(lent + 1, STATE - 1) && zeros(lent + unused, LUFFA_RECORD_BYTES - unused),
+          "start at code %zu: not the record of an empty message", code);
+    memcpy(record, lent, LUFFA_RECORD_BYTES);
+}
+
+void feed_call(uint32_t want, uint8_t *record, size_t record_len, const uint8_t *piece, size_t piece_len)
+{
+    static struct lent r, p;
+    uint8_t *lent = lend(&r, record, record_len), *in = lend(&p, piece, piece_len);
+
+    uint32_t got = luffa_feed(lent, record_len, in, piece_len);
+    check(answered(got, want, &r), "feed of %zu bytes to a record of %zu: answered %u, wanted %u", piece_len, record_len, got,
+          want);
+    check(kept(&r, want == LUFFA_DONE ? LUFFA_RECORD_BYTES : 0) && kept(&p, 0),
+          "feed of %zu bytes to a record of %zu, answer %u: wrote outside the record", piece_len, record_len, got);
+    if (want != LUFFA_DONE)
+        return;
+
+    size_t code = record[0], held = count_of(record) % 32, now = (held + piece_len) % 32;
+    size_t unused = STATE + state_bytes[code];
+    uint8_t pending[32] = {0};
+    for (size_t i = 0; i < now; i++) {
+        /* Of the bytes held and then the piece, the last `now`. */
+        size_t at = held + piece_len - now + i;
+        pending[i] = at < held ? record[PENDING + at] : in[at - held];
+    }
+    check(memcmp(lent, record, STATE) == 0 && zeros(lent + unused, PENDING - unused) &&
+              memcmp(lent + PENDING, pending, 32) == 0 && count_of(lent) == count_of(record) + piece_len &&
+              (held + piece_len >= 32 || memcmp(lent + STATE, record + STATE, PENDING - STATE) == 0),
+          "feed of %zu bytes at code %zu after %llu: wrong record", piece_len, code,
+          (unsigned long long)count_of(record));
+    memcpy(record, lent, LUFFA_RECORD_BYTES);
+}
+
+void finish_call(uint32_t want, const uint8_t *record, size_t record_len, size_t out_len, uint8_t *digest)
+{
+    static struct lent r, o;
+    uint8_t *lent = lend(&r, record, record_len), *out = lend(&o, NULL, out_len);
+    size_t written = want == LUFFA_DONE ? digest_bytes[record[0]] : 0;
+
+    uint32_t got = luffa_finish(lent, record_len, out, out_len);
+    check(answered(got, want, &r), "finish of a record of %zu bytes into %zu: answered %u, wanted %u", record_len, out_len, got,
+          want);
+    check(kept(&r, 0) && kept(&o, written),
+          "finish of a record of %zu bytes into %zu, answer %u: wrote outside the digest", record_len, out_len, got);
+    if (digest != NULL)
+        memcpy(digest, o.bytes, written);
+}

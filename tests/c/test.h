@@ -1,0 +1,46 @@
+/* What the C tests share. A test makes each call through a function below, which lends it buffers
+   that stand against pages nobody may touch, and then judges the number answered and every byte
+   lent, refused or done. */
+#ifndef TEST_H
+#define TEST_H
+
+#include <luffa.h>
+#include <stdio.h>
+#include <stdlib.h>
+#include <string.h>
+
+/* Ends the program with status 1 and the words given, unless the condition holds. */
+void check(int holds, const char *words, ...) __attribute__((format(printf, 2, 3)));
+
+/* n bytes, the same in every run. */
+void fill(uint8_t *bytes, size_t n);
+
+/* By code: bytes of the digest, and of the state words that the code uses. */
+extern const size_t digest_bytes[5], state_bytes[5];
+
+/* Where the record's fields begin (document 01, "The kept hash record"). */
+enum { STATE = 8, PENDING = 168, COUNT = 200 };
+
+uint64_t count_of(const uint8_t *record);
+void set_count(uint8_t *record, uint64_t count);
+
+/* A well-formed record of this count, with any state words and any pending bytes. */
+void any_record(uint8_t *record, size_t code, uint64_t count);
+
+/* The calls. `want` is the number that must be answered. */
+
+/* Where done, `digest` gets the digest; it may be null. */
+void digest_call(uint32_t want, size_t code, const uint8_t *message, size_t message_len, size_t out_len,
+                 uint8_t *digest);
+
+/* Where done, all of the record but its state words is judged, and `record` gets it. */
+void start_call(uint32_t want, size_t code, size_t record_len, uint8_t *record);
+
+/* Where done, all of the record but its state words is judged, and these too where no block was
+   filled; then `record` gets it. */
+void feed_call(uint32_t want, uint8_t *record, size_t record_len, const uint8_t *piece, size_t piece_len);
+
+/* Where done, `digest` gets the digest; it may be null. */
+void finish_call(uint32_t want, const uint8_t *record, size_t record_len, size_t out_len, uint8_t *digest);
+
+#endif

@@ -1,0 +1,62 @@
+/* Lengths of 4 GiB and more are judged whole: cut to 32 bits, each of these would be answered
+   otherwise. The memory is only mapped; a refusal touches none of it, and a digest its first bytes. */
+#define _DEFAULT_SOURCE /* MAP_ANONYMOUS */
+#include "test.h"
+#include <sys/mman.h>
+
+static const size_t WIDE = (size_t)1 << 32;
+
+/* Whether the mapped bytes begin with `bytes` and are zero from there on, as far as is looked. */
+static int holds(const uint8_t *mapped, const uint8_t *bytes, size_t n)
+{
+    static const uint8_t zero[65536];
+
+    return memcmp(mapped, bytes, n) == 0 && memcmp(mapped + n, zero, sizeof zero) == 0 &&
+           memcmp(mapped + WIDE, zero, sizeof zero) == 0;
+}
+
+int main(void)
+{
+    uint8_t record[LUFFA_RECORD_BYTES], digest[LUFFA_512_BYTES];
+    uint8_t *mapped = mmap(NULL, WIDE + 65536, PROT_READ | PROT_WRITE, MAP_PRIVATE | MAP_ANONYMOUS | MAP_NORESERVE,
+                           -1, 0);
+
+    check(mapped != MAP_FAILED, "no address space for 4 GiB");
+    for (size_t code = 1; code <= 4; code++) {
+        /* A record buffer of 2^32 + 208 bytes isn't one of 208. */
+        any_record(record, code, 40);
+        check(luffa_start(code, mapped, WIDE + LUFFA_RECORD_BYTES) == LUFFA_RECORD && holds(mapped, record, 0),
+              "start in a wide buffer at code %zu", code);
+        memcpy(mapped, record, sizeof record);
+        check(luffa_feed(mapped, WIDE + LUFFA_RECORD_BYTES, record, 1) == LUFFA_RECORD &&
+                  holds(mapped, record, sizeof record),
+              "feed to a wide record at code %zu", code);
+        check(luffa_finish(mapped, WIDE + LUFFA_RECORD_BYTES, digest, sizeof digest) == LUFFA_RECORD,
+              "finish of a wide record at code %zu", code);
+        memset(mapped, 0, sizeof record);
+
+        /* An output buffer of 2^32 bytes isn't one of none. */
+        digest_call(LUFFA_DONE, code, record, sizeof record, sizeof digest, digest);
+        check(luffa_digest(code, record, sizeof record, mapped, WIDE) == LUFFA_DONE &&
+                  holds(mapped, digest, digest_bytes[code]),
+              "digest into a wide buffer at code %zu", code);
+        memset(mapped, 0, sizeof digest);
+        finish_call(LUFFA_DONE, record, sizeof record, sizeof digest, digest);
+        check(luffa_finish(record, sizeof record, mapped, WIDE) == LUFFA_DONE &&
+                  holds(mapped, digest, digest_bytes[code]),
+              "finish into a wide buffer at code %zu", code);
+        memset(mapped, 0, sizeof digest);
+
+        /* A piece of 2^32 bytes isn't an empty one, nor is one of 2^32 + 1 a byte. */
+        for (size_t left = 0; left < 40; left++) {
+            uint8_t copy[LUFFA_RECORD_BYTES];
+            any_record(record, code, LUFFA_LIMIT - left);
+            memcpy(copy, record, sizeof copy);
+            for (size_t n = WIDE; n <= WIDE + left; n++)
+                check(luffa_feed(record, sizeof record, mapped, n) == LUFFA_LONG &&
+                          memcmp(record, copy, sizeof copy) == 0,
+                      "feed of a wide piece at code %zu with room for %zu bytes", code, left);
+        }
+    }
+    return 0;
+}
