@@ -1,33 +1,81 @@
-/* Cycles per byte of the archive and of portable.c over the same messages in one run, with the bars for long messages. It measures
-   nothing before both have given the same digests; --check stops there. */
+/* Cycles per byte of the archive and of portable.c over the same messages in one run, of feeding against the one-call digest, and the
+   stack of each call, with the bars. It measures nothing before all have given the same digests; --check leaves out the clock. */
 #include "luffa.h"
 #include "portable.h"
 
+#include <float.h>
 #include <stdio.h>
+#include <stdlib.h>
 #include <string.h>
+#include <ucontext.h>
 #include <x86intrin.h>
 
-enum { CODES = 4, MOST_DIGEST_BYTES = 64, LONGEST = 1 << 20, FILL = 0xa5 };
+#define COUNT(array) (sizeof(array) / sizeof(array)[0])
 
-/* What a measured thing is given: a code, a message and room for the digest. */
+enum { CODES = 4, MOST_DIGEST_BYTES = 64, LONGEST = 1 << 20, PIECE = 1 << 16, FILL = 0xa5 };
+
+/* What a measured thing is given: a code, a message, room for the digest and a record. */
 struct job {
     size_t code;
     const uint8_t *message;
     size_t len;
     uint8_t out[MOST_DIGEST_BYTES];
+    uint8_t record[LUFFA_RECORD_BYTES];
 };
+
+/* A job with its room filled and its record started. */
+static struct job job_of(size_t code, const uint8_t *message, size_t len)
+{
+    struct job job = {.code = code, .message = message, .len = len};
+    memset(job.out, FILL, sizeof job.out);
+    luffa_start(code, job.record, sizeof job.record);
+    return job;
+}
 
 /* A measured thing: it does the whole job once and gives the call's answer. Each has a function of its own, below. */
 typedef uint32_t work(struct job *job);
+
+static uint32_t portable_c_digest(struct job *job)
+{
+    return portable_digest(job->code, job->message, job->len, job->out, sizeof job->out);
+}
 
 static uint32_t archive_digest(struct job *job)
 {
     return luffa_digest(job->code, job->message, job->len, job->out, sizeof job->out);
 }
 
-static uint32_t portable_c_digest(struct job *job)
+static uint32_t archive_start(struct job *job) { return luffa_start(job->code, job->record, sizeof job->record); }
+
+/* The whole message into the record as it is. A message of whole blocks leaves no rest there, so that every feeding is the same work. */
+static uint32_t archive_feed(struct job *job) { return luffa_feed(job->record, sizeof job->record, job->message, job->len); }
+
+static uint32_t archive_finish(struct job *job) { return luffa_finish(job->record, sizeof job->record, job->out, sizeof job->out); }
+
+/* Start, the message in pieces of this size, finish. */
+static inline uint32_t in_pieces(struct job *job, size_t size)
 {
-    return portable_digest(job->code, job->message, job->len, job->out, sizeof job->out);
+    uint32_t answer = archive_start(job);
+
+    for (size_t at = 0; answer == LUFFA_DONE && at < job->len; at += size) {
+        size_t left = job->len - at;
+        answer = luffa_feed(job->record, sizeof job->record, job->message + at, left < size ? left : size);
+    }
+    return answer == LUFFA_DONE ? archive_finish(job) : answer;
+}
+
+static uint32_t archive_one_piece(struct job *job) { return in_pieces(job, job->len); }
+static uint32_t archive_64_kib_pieces(struct job *job) { return in_pieces(job, PIECE); }
+static uint32_t archive_single_bytes(struct job *job) { return in_pieces(job, 1); }
+
+/* As many empty pieces as the message has bytes. */
+static uint32_t archive_empty_pieces(struct job *job)
+{
+    uint32_t answer = LUFFA_DONE;
+
+    for (size_t i = 0; i < job->len; i++)
+        answer |= luffa_feed(job->record, sizeof job->record, job->message, 0);
+    return answer;
 }
 
 /* -- The same digests -- */
@@ -41,17 +89,15 @@ static void print_out(const char *name, uint32_t answer, const struct job *job)
 }
 
 /* Both do the job in a filled buffer, and the whole buffers are compared: the bytes after the digest must stay too. */
-static int same(work *a, work *b, size_t code, const uint8_t *message, size_t len)
+static int same(const char *way, work *a, work *b, size_t code, const uint8_t *message, size_t len)
 {
-    struct job of_a = {code, message, len, {0}}, of_b = of_a;
-    memset(of_a.out, FILL, sizeof of_a.out);
-    memset(of_b.out, FILL, sizeof of_b.out);
+    struct job of_a = job_of(code, message, len), of_b = of_a;
 
     uint32_t answer_a = a(&of_a), answer_b = b(&of_b);
     if (answer_a == 0 && answer_b == 0 && memcmp(of_a.out, of_b.out, sizeof of_a.out) == 0)
         return 1;
 
-    printf("DIFFERENT: code %zu, %zu bytes\n", code, len);
+    printf("DIFFERENT: code %zu, %zu bytes, %s\n", code, len, way);
     print_out("archive", answer_a, &of_a);
     print_out("portable C", answer_b, &of_b);
     return 0;
@@ -69,7 +115,7 @@ static int appendix_c(work *run)
     };
 
     for (size_t code = 1; code <= CODES; code++) {
-        struct job job = {code, (const uint8_t *)"abc", 3, {0}};
+        struct job job = job_of(code, (const uint8_t *)"abc", 3);
         char hex[2 * MOST_DIGEST_BYTES + 1];
         uint32_t answer = run(&job);
         for (size_t i = 0; i < sizeof job.out; i++)
@@ -83,23 +129,34 @@ static int appendix_c(work *run)
     return 1;
 }
 
-/* Every length to 200 meets every place in a block; the larger ones stand around powers of two. */
+/* Every length to 200 meets every place in a block; the larger ones stand around powers of two. Single bytes are too slow for the longest. */
 static int check(const uint8_t *message)
 {
     static const size_t LARGER[] = {255, 256, 257, 1000, 4095, 4096, 4097, 65535, 65536, 65537, LONGEST - 1, LONGEST};
+    static const struct {
+        const char *name;
+        work *run;
+        size_t most;
+    } WAYS[] = {
+        {"one-call digest", archive_digest, LONGEST},
+        {"fed as one piece", archive_one_piece, LONGEST},
+        {"fed in 64 KiB pieces", archive_64_kib_pieces, LONGEST},
+        {"fed byte by byte", archive_single_bytes, PIECE + 1},
+    };
     size_t compared = 0;
 
     if (!appendix_c(portable_c_digest))
         return 0;
-    for (size_t code = 1; code <= CODES; code++) {
-        for (size_t len = 0; len <= 200; len++, compared++)
-            if (!same(archive_digest, portable_c_digest, code, message, len))
-                return 0;
-        for (size_t i = 0; i < sizeof LARGER / sizeof LARGER[0]; i++, compared++)
-            if (!same(archive_digest, portable_c_digest, code, message, LARGER[i]))
-                return 0;
-    }
-    printf("the same digests: %zu messages of 0 to %d bytes, at codes 1 to %d\n", compared, LONGEST, CODES);
+    for (size_t i = 0; i < COUNT(WAYS); i++)
+        for (size_t code = 1; code <= CODES; code++) {
+            for (size_t len = 0; len <= 200; len++, compared++)
+                if (!same(WAYS[i].name, WAYS[i].run, portable_c_digest, code, message, len))
+                    return 0;
+            for (size_t k = 0; k < COUNT(LARGER) && LARGER[k] <= WAYS[i].most; k++, compared++)
+                if (!same(WAYS[i].name, WAYS[i].run, portable_c_digest, code, message, LARGER[k]))
+                    return 0;
+        }
+    printf("the same digests: %zu, of 0 to %d bytes, at codes 1 to %d, in one call and fed\n", compared, LONGEST, CODES);
     return 1;
 }
 
@@ -123,40 +180,177 @@ static uint64_t timing(work *run, struct job *job, unsigned calls)
     return __rdtsc() - start;
 }
 
-/* Both take turns, so that both meet the same clock speed and the same neighbours. The best timing of each, in cycles per byte. */
-static void race(work *a, work *b, struct job *job, const struct length *length, double *of_a, double *of_b)
+/* All take turns, so that all meet the same clock speed and the same neighbours. The best timing of each, in cycles per byte. */
+static void race(work *const *runs, size_t count, struct job *job, const struct length *length, double *best)
 {
-    uint64_t best_a = UINT64_MAX, best_b = UINT64_MAX;
-
-    for (unsigned i = 0; i < length->timings; i++) {
-        uint64_t cycles_a = timing(a, job, length->calls), cycles_b = timing(b, job, length->calls);
-        best_a = cycles_a < best_a ? cycles_a : best_a;
-        best_b = cycles_b < best_b ? cycles_b : best_b;
-    }
-    *of_a = (double)best_a / length->calls / (double)length->len;
-    *of_b = (double)best_b / length->calls / (double)length->len;
+    for (size_t k = 0; k < count; k++)
+        best[k] = DBL_MAX;
+    for (unsigned i = 0; i < length->timings; i++)
+        for (size_t k = 0; k < count; k++) {
+            double cycles = (double)timing(runs[k], job, length->calls) / length->calls / (double)length->len;
+            best[k] = cycles < best[k] ? cycles : best[k];
+        }
 }
+
+static void print_bar(double ratio, double bar) { printf("   at most %.2f: %-6s", bar, ratio <= bar ? "ok" : "MISSED"); }
 
 /* The one-call digest against portable C. A bar stands at the longest message only: there the rounds are nearly all of the work. */
 static void digests(const uint8_t *message)
 {
     static const struct length LENGTHS[] = {{64, 16, 4000}, {4096, 1, 4000}, {LONGEST, 1, 100}};
     static const double BAR[CODES + 1] = {0, 0.72, 0.72, 0.58, 0.55};
+    static work *const RUNS[] = {archive_digest, portable_c_digest};
 
     printf("\nOne-call digest, cycles (rdtsc) per byte, best timing of each, taken in turns\n\n");
     printf("code    bytes   archive  portable C   ratio   bar at 1 MiB\n");
     for (size_t code = 1; code <= CODES; code++)
-        for (size_t i = 0; i < sizeof LENGTHS / sizeof LENGTHS[0]; i++) {
-            struct job job = {code, message, LENGTHS[i].len, {0}};
-            double archive, portable;
-            race(archive_digest, portable_c_digest, &job, &LENGTHS[i], &archive, &portable);
-            double ratio = archive / portable;
-            printf("%4zu %8zu %9.2f %11.2f %7.3f", code, job.len, archive, portable, ratio);
+        for (size_t i = 0; i < COUNT(LENGTHS); i++) {
+            struct job job = job_of(code, message, LENGTHS[i].len);
+            double best[COUNT(RUNS)];
+            race(RUNS, COUNT(RUNS), &job, &LENGTHS[i], best);
+            double ratio = best[0] / best[1];
+            printf("%4zu %8zu %9.2f %11.2f %7.3f", code, job.len, best[0], best[1], ratio);
             if (job.len == LONGEST)
-                printf("   at most %.2f: %s", BAR[code], ratio <= BAR[code] ? "ok" : "MISSED");
+                print_bar(ratio, BAR[code]);
             printf("\n");
             fflush(stdout);
         }
+}
+
+/* The longest message fed, against its one-call digest. The absorbing of the blocks cannot be called from C: the stand-in is one feed of
+   them all, which reads and writes a record besides. */
+static void feeding(const uint8_t *message)
+{
+    static const struct length LENGTH = {LONGEST, 1, 100};
+    static const double BAR_PIECES = 1.05, BAR_DIGEST = 1.03;
+    enum { DIGEST, PIECES, ONE_PIECE, FEED };
+    static work *const RUNS[] = {archive_digest, archive_64_kib_pieces, archive_one_piece, archive_feed};
+
+    printf("\n1 MiB fed, cycles per byte, best timing of each, taken in turns\n\n");
+    printf("code   digest   64 KiB pieces   one piece   feed alone   pieces / digest                digest / feed alone\n");
+    for (size_t code = 1; code <= CODES; code++) {
+        struct job job = job_of(code, message, LENGTH.len);
+        double best[COUNT(RUNS)];
+        race(RUNS, COUNT(RUNS), &job, &LENGTH, best);
+        double pieces = best[PIECES] / best[DIGEST], digest = best[DIGEST] / best[FEED];
+        printf("%4zu %8.2f %15.2f %11.2f %12.2f", code, best[DIGEST], best[PIECES], best[ONE_PIECE], best[FEED]);
+        printf("   %.3f", pieces);
+        print_bar(pieces, BAR_PIECES);
+        printf("   %.3f", digest);
+        print_bar(digest, BAR_DIGEST);
+        printf("\n");
+        fflush(stdout);
+    }
+}
+
+/* Pieces so short that the record is nearly all of the work: a call for each byte of 64 KiB, so the cycles per byte are those per call.
+   Every 32nd of the single bytes runs a round; their start and finish are in it too, spread over all calls. */
+static void short_pieces(const uint8_t *message)
+{
+    static const struct length LENGTH = {PIECE, 1, 20};
+    static work *const RUNS[] = {archive_single_bytes, archive_empty_pieces};
+
+    printf("\nOne luffa_feed, cycles per call over %d calls, best timing of each, taken in turns\n\n", PIECE);
+    printf("code   1 byte   empty piece\n");
+    for (size_t code = 1; code <= CODES; code++) {
+        struct job job = job_of(code, message, LENGTH.len);
+        double best[COUNT(RUNS)];
+        race(RUNS, COUNT(RUNS), &job, &LENGTH, best);
+        printf("%4zu %8.1f %13.1f\n", code, best[0], best[1]);
+        fflush(stdout);
+    }
+}
+
+/* -- The stack -- */
+
+enum { STACK_BYTES = 1 << 16, STACK_BAR = 4096 };
+
+/* The stack to paint, and what to run on it: makecontext hands over no pointers. */
+static _Alignas(64) uint8_t stack[STACK_BYTES];
+static struct {
+    work *run;
+    struct job job;
+    uint32_t answer;
+} there;
+
+static void run_there(void) { there.answer = there.run(&there.job); }
+
+static uint32_t nothing(struct job *job)
+{
+    (void)job;
+    return LUFFA_DONE;
+}
+
+/* Does a copy of the job on the painted stack. Gives the bytes from its upper end down to the lowest that isn't paint any more. */
+static size_t touched(work *run, const struct job *job, uint8_t paint)
+{
+    ucontext_t here, other;
+    size_t left = 0;
+
+    memset(stack, paint, sizeof stack);
+    there.run = run;
+    there.job = *job;
+    if (getcontext(&other) != 0) {
+        perror("getcontext");
+        exit(1);
+    }
+    other.uc_stack.ss_sp = stack;
+    other.uc_stack.ss_size = sizeof stack;
+    other.uc_link = &here;
+    makecontext(&other, run_there, 0);
+    if (swapcontext(&here, &other) != 0) {
+        perror("swapcontext");
+        exit(1);
+    }
+    if (there.answer != LUFFA_DONE) {
+        printf("REFUSED: code %zu, %zu bytes, answer %u\n", job->code, job->len, (unsigned)there.answer);
+        exit(1);
+    }
+    while (left < sizeof stack && stack[left] == paint)
+        left++;
+    return sizeof stack - left;
+}
+
+/* A written byte can be like one paint, but not like both. */
+static size_t most_touched(work *run, const struct job *job)
+{
+    size_t a = touched(run, job, FILL), b = touched(run, job, (uint8_t)~FILL);
+    return a > b ? a : b;
+}
+
+/* The most stack of each call, from its return address down, over codes, lengths and bytes held in the record. A call that does nothing
+   shows what is not the call's own; it has a return address too. */
+static int stacks(const uint8_t *message)
+{
+    static const struct {
+        const char *name;
+        work *run;
+    } CALLS[] = {
+        {"luffa_digest", archive_digest},
+        {"luffa_start", archive_start},
+        {"luffa_feed", archive_feed},
+        {"luffa_finish", archive_finish},
+    };
+    static const size_t LENGTHS[] = {0, 1, 31, 32, 33, 63, 64, 65, 200, 4096, 65537}, HELD[] = {0, 1, 16, 31, 32};
+    int ok = 1;
+
+    printf("\nStack, bytes: the most that a call has written to, over codes 1 to %d, %zu lengths and %zu records\n\n", CODES, COUNT(LENGTHS),
+           COUNT(HELD));
+    for (size_t i = 0; i < COUNT(CALLS); i++) {
+        size_t most = 0;
+        for (size_t code = 1; code <= CODES; code++)
+            for (size_t k = 0; k < COUNT(HELD); k++)
+                for (size_t n = 0; n < COUNT(LENGTHS); n++) {
+                    struct job job = job_of(code, message, HELD[k]);
+                    archive_feed(&job);
+                    job.len = LENGTHS[n];
+                    size_t own = most_touched(CALLS[i].run, &job) - most_touched(nothing, &job) + sizeof(void *);
+                    most = own > most ? own : most;
+                }
+        printf("%-12s %6zu   at most %d: %s\n", CALLS[i].name, most, STACK_BAR, most <= STACK_BAR ? "ok" : "MISSED");
+        ok = ok && most <= STACK_BAR;
+    }
+    return ok;
 }
 
 int main(int argc, char **argv)
@@ -177,7 +371,10 @@ int main(int argc, char **argv)
 
     if (!check(message))
         return 1;
-    if (!only_check)
+    if (!only_check) {
         digests(message);
-    return 0;
+        feeding(message);
+        short_pieces(message);
+    }
+    return stacks(message) ? 0 : 1;
 }
