@@ -129,7 +129,7 @@ static int appendix_c(work *run)
     return 1;
 }
 
-/* Every length to 200 meets every place in a block; the larger ones stand around powers of two. Single bytes are too slow for the longest. */
+/* Every length to 200 meets every place in a block; the larger ones stand around powers of two. Byte by byte the longest are too slow. */
 static int check(const uint8_t *message)
 {
     static const size_t LARGER[] = {255, 256, 257, 1000, 4095, 4096, 4097, 65535, 65536, 65537, LONGEST - 1, LONGEST};
@@ -192,7 +192,7 @@ static void race(work *const *runs, size_t count, struct job *job, const struct 
         }
 }
 
-static void print_bar(double ratio, double bar) { printf("   at most %.2f: %-6s", bar, ratio <= bar ? "ok" : "MISSED"); }
+static const char *verdict(double value, double bar) { return value <= bar ? "ok" : "MISSED"; }
 
 /* The one-call digest against portable C. A bar stands at the longest message only: there the rounds are nearly all of the work. */
 static void digests(const uint8_t *message)
@@ -211,7 +211,7 @@ static void digests(const uint8_t *message)
             double ratio = best[0] / best[1];
             printf("%4zu %8zu %9.2f %11.2f %7.3f", code, job.len, best[0], best[1], ratio);
             if (job.len == LONGEST)
-                print_bar(ratio, BAR[code]);
+                printf("   at most %.2f: %s", BAR[code], verdict(ratio, BAR[code]));
             printf("\n");
             fflush(stdout);
         }
@@ -227,18 +227,15 @@ static void feeding(const uint8_t *message)
     static work *const RUNS[] = {archive_digest, archive_64_kib_pieces, archive_one_piece, archive_feed};
 
     printf("\n1 MiB fed, cycles per byte, best timing of each, taken in turns\n\n");
-    printf("code   digest   64 KiB pieces   one piece   feed alone   pieces / digest                digest / feed alone\n");
+    printf("code   digest   64 KiB pieces   one piece   feed alone   pieces / digest   digest / feed alone\n");
+    printf("%64s at most %.2f %8s at most %.2f\n", "", BAR_PIECES, "", BAR_DIGEST);
     for (size_t code = 1; code <= CODES; code++) {
         struct job job = job_of(code, message, LENGTH.len);
         double best[COUNT(RUNS)];
         race(RUNS, COUNT(RUNS), &job, &LENGTH, best);
         double pieces = best[PIECES] / best[DIGEST], digest = best[DIGEST] / best[FEED];
         printf("%4zu %8.2f %15.2f %11.2f %12.2f", code, best[DIGEST], best[PIECES], best[ONE_PIECE], best[FEED]);
-        printf("   %.3f", pieces);
-        print_bar(pieces, BAR_PIECES);
-        printf("   %.3f", digest);
-        print_bar(digest, BAR_DIGEST);
-        printf("\n");
+        printf("%10.3f %-7s %13.3f %s\n", pieces, verdict(pieces, BAR_PIECES), digest, verdict(digest, BAR_DIGEST));
         fflush(stdout);
     }
 }
@@ -347,7 +344,7 @@ static int stacks(const uint8_t *message)
                     size_t own = most_touched(CALLS[i].run, &job) - most_touched(nothing, &job) + sizeof(void *);
                     most = own > most ? own : most;
                 }
-        printf("%-12s %6zu   at most %d: %s\n", CALLS[i].name, most, STACK_BAR, most <= STACK_BAR ? "ok" : "MISSED");
+        printf("%-12s %6zu   at most %d: %s\n", CALLS[i].name, most, STACK_BAR, verdict((double)most, STACK_BAR));
         ok = ok && most <= STACK_BAR;
     }
     return ok;
