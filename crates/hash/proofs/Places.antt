@@ -17,7 +17,7 @@ use Rattle.definition.specs.Record.{wordsOfAll, countWords, encode}
 use Rattle.definition.proofs.Word.{bytes-of-word}
 use Rattle.definition.proofs.Buffer.{write-at, overwriteAt-more, length-overwriteAt, length-writeAt}
 use Rattle.rounds.proofs.Parts.{part-rest}
-use Rattle.rounds.proofs.Words.{length-bytes}
+use Rattle.definition.proofs.Records.{length-bytes}
 
 -- a block and a word read from a part
 pub part-block : (b : List ℕ) (n : ℕ) → n + 32 ≤ length b → firstBlock (take (length b - n) (drop n b)) ≡ blockOf (drop n b)

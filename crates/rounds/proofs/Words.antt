@@ -25,6 +25,7 @@ use Rattle.definition.specs.Counted.{countedRound, countedChain}
 use Rattle.definition.specs.Buffer.{overwrite, writeAt}
 use Rattle.definition.proofs.Buffer.{write-more, length-overwrite}
 use Rattle.definition.proofs.Chain.{counted-snoc, counted-state, length-blocksIn}
+use Rattle.definition.proofs.Records.{length-bytes}
 use Rattle.definition.proofs.Final.{blank, length-outputs, output-at, xor-five, length-blank}
 use Rattle.rounds.specs.declared.squeeze.Squeezed.{Squeezed}
 use Rattle.rounds.specs.Squeeze.{withOutput, turnedWhen, turned, begun, squeezed, wordsTo}
@@ -139,11 +140,6 @@ pub bytes-snoc : (ws : List ℕ) (a : ℕ) → bytesOfAll (ws ++ (a ∷ [])) ≡
 unfolding bytesOfAll
 bytes-snoc [] a = append-nil (bytesOf a)
 bytes-snoc (b ∷ ws) a = ap (λ (l : List ℕ). bytesOf b ++ l) (bytes-snoc ws a) ∙ sym (append-assoc (bytesOf b) (bytesOfAll ws) (bytesOf a))
-
-pub length-bytes : (ws : List ℕ) → length (bytesOfAll ws) ≡ 4 * length ws
-unfolding bytesOfAll bytesOf
-length-bytes [] = refl
-length-bytes (b ∷ ws) = omega (arith, length-bytes ws)
 
 -- one word more in the buffer
 pub put-more : (w : Width) (q₀ q : Squeezed) (i : ℕ) (out out₀ : List ℕ) → q ≡ squeezed w q₀ (suc i)

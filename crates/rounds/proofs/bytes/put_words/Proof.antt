@@ -11,7 +11,8 @@ use lib.Seq.{take-suc, take-length, length-take-le}
 use Rattle.definition.specs.Word.{bytesOf, bytesOfAll}
 use Rattle.definition.specs.Buffer.{writeAt}
 use Rattle.definition.proofs.Buffer.{write-none, write-not, writeAt-more, length-writeAt}
-use Rattle.rounds.proofs.Words.{bytes-snoc, length-bytes}
+use Rattle.definition.proofs.Records.{length-bytes}
+use Rattle.rounds.proofs.Words.{bytes-snoc}
 use Rattle.rounds.proofs.bytes.put_words.Statement.{statement}
 use Rattle.rounds.proofs.bytes.put_words.Tie as tie
 
