@@ -93,7 +93,7 @@ pub(crate) fn well_kept(k: Kept) -> bool
     if !crate::record::all_zero(&p[pos..]) {
         return false;
     }
-    k.count <= 2305843009213693951
+    k.count <= crate::record::LIMIT as u64
 }
 
 // The state after the pending block, which the front of a piece completes; where nothing is pending there is no front.
