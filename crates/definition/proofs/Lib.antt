@@ -20,4 +20,5 @@ pub mod Demand2
 pub mod Computed
 pub mod Vectors
 pub mod Sheet
+pub mod Marks
 pub mod Examples

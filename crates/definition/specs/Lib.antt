@@ -19,6 +19,7 @@ pub mod Refusal
 pub mod Record
 pub mod Calls
 pub mod Sheet
+pub mod Marks
 pub mod AppendixB
 pub mod AppendixD
 pub mod AppendixE
