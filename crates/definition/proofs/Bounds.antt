@@ -223,7 +223,7 @@ at-words none (suc j) = omega arith
 at-words (more k r) zero = k
 at-words (more k r) (suc j) = at-words r j
 
-five-words : {h : List Block} → AllWords h → AllWords (five (stateOf h))
+pub five-words : {h : List Block} → AllWords h → AllWords (five (stateOf h))
 unfolding five stateOf
 five-words k = more (at-words k 0) (more (at-words k 1) (more (at-words k 2) (more (at-words k 3) (more (at-words k 4) none))))
 

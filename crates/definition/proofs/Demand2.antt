@@ -22,7 +22,7 @@ use Rattle.definition.proofs.Records.{length-encode, decode-encode}
 use Rattle.definition.proofs.Bounds.{kept-words}
 
 -- a code that is known is one byte
-known-byte : (code : ℕ) → known code ≡ true → code < 256
+pub known-byte : (code : ℕ) → known code ≡ true → code < 256
 unfolding known
 known-byte code k = omega (arith, leb-true code 4 (both-true (leb 1 code) (leb code 4) k .1))
 
@@ -38,7 +38,7 @@ length-pending code x =
     )
 
 -- the seven bytes after the code
-seven-zeros : (k : Kept) → allZero (take 7 (drop 1 (encode k))) ≡ true
+pub seven-zeros : (k : Kept) → allZero (take 7 (drop 1 (encode k))) ≡ true
 unfolding encode allZero
 seven-zeros k = refl
 

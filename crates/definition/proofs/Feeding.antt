@@ -219,11 +219,11 @@ unused-zero W3 s = refl
 unused-zero W4 s = refl
 unused-zero W5 s = refl
 
-unused-chain : (w : Width) (h ms : List Block) → length h ≡ blockCount w
+pub unused-chain : (w : Width) (h ms : List Block) → length h ≡ blockCount w
     → allZero (wordsOfAll (drop (blockCount w) (five (stateOf (chain w h ms))))) ≡ true
 unused-chain w h ms e = rw (chained w h ms e) at (unused-zero w (stateOf (chain w h ms)))
 
-zeros-filled : (n : ℕ) (x : List ℕ) → length x ≡ n → allZero (drop n (filled x)) ≡ true
+pub zeros-filled : (n : ℕ) (x : List ℕ) → length x ≡ n → allZero (drop n (filled x)) ≡ true
 unfolding filled
 zeros-filled n x e = rw (drop-at x (replicate (32 - length x) 0) n e) (zeros-replicate (32 - length x))
 

@@ -17,6 +17,7 @@ pub mod Feeding
 pub mod Records
 pub mod Bounds
 pub mod Demand2
+pub mod AnyRecord
 pub mod Computed
 pub mod Vectors
 pub mod Sheet

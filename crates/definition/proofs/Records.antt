@@ -273,7 +273,7 @@ block-glue x h e =
     ))
 
 -- a part of a string, and what comes after it
-bytes-drop : (n : ℕ) (b : List ℕ) → ((i : ℕ) → getD b i 0 < 256) → (i : ℕ) → getD (drop n b) i 0 < 256
+pub bytes-drop : (n : ℕ) (b : List ℕ) → ((i : ℕ) → getD b i 0 < 256) → (i : ℕ) → getD (drop n b) i 0 < 256
 bytes-drop n b h i = rw (getD-drop n b i 0) (h (n + i))
 
 block-in-glue : (b : List ℕ) → ((i : ℕ) → getD b i 0 < 256) → (j : ℕ) → 8 + 32 * j + 32 ≤ length b
@@ -301,7 +301,7 @@ pending-glue : (b : List ℕ) → decode b .pending ++ drop 200 b ≡ drop 168 b
 unfolding decode
 pending-glue b = rw (drop-drop 32 168 b) at (take-append-drop 32 (drop 168 b))
 
-word-lt : (x : List ℕ) (k : ℕ) → ((i : ℕ) → getD x i 0 < 256) → wordAt x k < 2 ^ 32
+pub word-lt : (x : List ℕ) (k : ℕ) → ((i : ℕ) → getD x i 0 < 256) → wordAt x k < 2 ^ 32
 unfolding wordAt wordOf
 word-lt x k h = omega (arith, h (4 * k), h (4 * k + 1), h (4 * k + 2), h (4 * k + 3))
 

@@ -40,7 +40,7 @@ blockFrom ws =
       a4 = getD ws 4 0;
       a5 = getD ws 5 0;
       a6 = getD ws 6 0;
-      a7 = getD ws 7 0
+      a7 = getD ws 7 0;
     }
 
 -- the state that a mark holds: its first w blocks; the words of unused blocks are not read
@@ -88,7 +88,7 @@ worked code n sheet marks m =
     record {
       marks = overwriteAt (markWords * (m + 1)) (marksAfter w (q n - m) h x) marks;
       digest = digestAfter code h x;
-      rounds = roundsAfter code x
+      rounds = roundsAfter code x;
     }
 
 -- marks are true when each of marks 0 to q holds the state after the groups before it
