@@ -1,6 +1,6 @@
 -- The words of a state stay words of 32 bits: after a step, a round and a chain of rounds, and in the record that a message leads to.
 -- Assumes nothing.
-use mathlib.Core.Bool.{Bool, true}
+use mathlib.Core.Bool.{Bool, true, _&&_}
 use mathlib.Core.List.{List, [], _∷_}
 use Prim.Native.Nat.{ℕ, zero, suc, _+_, _-_, _*_, _/_, _%_, _^_, _<_, _≤_}
 use native.Mathlib.Nat.{mod-lt, lt-of-le-of-lt, mul-le-mul-right, pow-suc}
@@ -27,7 +27,7 @@ use Rattle.definition.specs.State.{five, stateOf}
 use Rattle.definition.specs.Luffa.{widthAt}
 use Rattle.definition.specs.Record.{wordsOfAll}
 use Rattle.definition.proofs.Bits.{bit-lt}
-use Rattle.definition.proofs.Cases.{both, both-left, both-right, everyBelow, at-below}
+use Rattle.definition.proofs.Cases.{both-left, both-right, everyBelow, at-below}
 use Rattle.definition.proofs.Chain.{length-inject}
 use Rattle.definition.proofs.Computed.{everything}
 use Rattle.definition.proofs.Feeding.{keptOf}
@@ -141,11 +141,11 @@ AllPairs (c ∷ cs) = PairWords c × AllPairs cs
 
 -- and as a test
 abbrev pairTest : Pair → Bool
-pairTest c = both (ltb (c .left) (2 ^ 32)) (ltb (c .right) (2 ^ 32))
+pairTest c = ltb (c .left) (2 ^ 32) && ltb (c .right) (2 ^ 32)
 
 abbrev pairsTest : List Pair → Bool
 pairsTest [] = true
-pairsTest (c ∷ cs) = both (pairTest c) (pairsTest cs)
+pairsTest (c ∷ cs) = pairTest c && pairsTest cs
 
 pair-words : (c : Pair) → T (pairTest c) → PairWords c
 pair-words c t =

@@ -2,21 +2,18 @@
 -- lists by a test.
 -- Assumes nothing.
 use mathlib.Core.Path.{_≡_, refl, ap₂}
-use mathlib.Core.Bool.{Bool, true, false}
+use mathlib.Core.Bool.{Bool, true, false, _&&_}
 use mathlib.Core.List.{List, [], _∷_}
 use Prim.Native.Nat.{ℕ, zero, suc, _<_}
 use native.Mathlib.Nat.{not-suc-le-zero, le-of-suc-le-suc}
 use lib.Dec.{T, eqb, eqb→eq}
+use Rattle.definition.specs.Buffer.{same}
 
-abbrev pub both : Bool → Bool → Bool
-both true b = b
-both false b = false
-
-pub both-left : (a b : Bool) → T (both a b) → T a
+pub both-left : (a b : Bool) → T (a && b) → T a
 both-left true b t = tt
 both-left false b t = t
 
-pub both-right : (a b : Bool) → T (both a b) → T b
+pub both-right : (a b : Bool) → T (a && b) → T b
 both-right true b t = t
 both-right false b t = absurd t
 
@@ -28,7 +25,7 @@ pub data Bits : ℕ → List ℕ → Type 0 where
 -- the test passes at each list of n bits
 abbrev pub everyBits : ℕ → (List ℕ → Bool) → Bool
 everyBits zero f = f []
-everyBits (suc n) f = both (everyBits n (λ bs. f (0 ∷ bs))) (everyBits n (λ bs. f (1 ∷ bs)))
+everyBits (suc n) f = everyBits n (λ bs. f (0 ∷ bs)) && everyBits n (λ bs. f (1 ∷ bs))
 
 pub at-bits : {n : ℕ} {bs : List ℕ} (f : List ℕ → Bool) → T (everyBits n f) → Bits n bs → T (f bs)
 at-bits f t none = t
@@ -41,7 +38,7 @@ at-bits f t (more {b = suc (suc b)} h r) = absurd (not-suc-le-zero (le-of-suc-le
 -- the test passes at each number below n
 abbrev pub everyBelow : ℕ → (ℕ → Bool) → Bool
 everyBelow zero f = true
-everyBelow (suc n) f = both (f 0) (everyBelow n (λ k. f (suc k)))
+everyBelow (suc n) f = f 0 && everyBelow n (λ k. f (suc k))
 
 pub at-below : (n : ℕ) (f : ℕ → Bool) → T (everyBelow n f) → (k : ℕ) → k < n → T (f k)
 at-below zero f t k h = absurd (not-suc-le-zero h)
@@ -49,13 +46,7 @@ at-below (suc n) f t zero h = both-left (f 0) (everyBelow n (λ k. f (suc k))) t
 at-below (suc n) f t (suc k) h =
     at-below n (λ k. f (suc k)) (both-right (f 0) (everyBelow n (λ k. f (suc k))) t) k (le-of-suc-le-suc h)
 
--- two lists of numbers are the same, as a test
-abbrev pub same : List ℕ → List ℕ → Bool
-same [] [] = true
-same [] (y ∷ ys) = false
-same (x ∷ xs) [] = false
-same (x ∷ xs) (y ∷ ys) = both (eqb x y) (same xs ys)
-
+-- two lists that pass the test are equal
 pub same→eq : (xs ys : List ℕ) → T (same xs ys) → xs ≡ ys
 same→eq [] [] t = refl
 same→eq [] (y ∷ ys) t = absurd t

@@ -16,7 +16,7 @@ use Rattle.definition.specs.Word.{bit}
 use Rattle.definition.specs.Block.{_⊕_, zeroBlock, wordsOf}
 use Rattle.definition.specs.Field.{double, keep, timesTo, times}
 use Rattle.definition.proofs.Bits.{bit-lt, bit-xor}
-use Rattle.definition.proofs.Cases.{Bits, none, more, everyBits, at-bits, both}
+use Rattle.definition.proofs.Cases.{Bits, none, more, everyBits, at-bits}
 use Rattle.definition.proofs.Xor.{⊕-zero, zero-⊕, ⊕-self, ⊕-swap, double-⊕}
 
 -- a polynomial as a number: the coefficients from that of x^0 on

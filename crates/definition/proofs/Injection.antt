@@ -2,7 +2,7 @@
 -- reading is right is proved once, over any form, and the checker compares the coefficients with the matrix at each w.
 -- Assumes nothing.
 use mathlib.Core.Path.{_≡_, refl, sym, ap, ap₂, _∙_}
-use mathlib.Core.Bool.{Bool, true, false}
+use mathlib.Core.Bool.{Bool, true, false, _&&_}
 use mathlib.Core.List.{List, [], _∷_, _++_, map}
 use Prim.Native.Nat.{ℕ, zero, suc, _+_, _-_, _*_, _/_, _%_, _^_, _<_, _≤_}
 use native.Mathlib.Numerals.{add-one}
@@ -17,7 +17,7 @@ use Rattle.definition.specs.Field.{double, times}
 use Rattle.definition.specs.Injection.{matrix, row, inject}
 use Rattle.definition.specs.Start.{blockCount}
 use Rattle.definition.specs.AppendixE.{Form, block, _⊞_, twice, power, sum, η, ξ, chained, forms, value, appendixE}
-use Rattle.definition.proofs.Cases.{both, both-left, both-right}
+use Rattle.definition.proofs.Cases.{both-left, both-right}
 use Rattle.definition.proofs.Field.{times-zero, times-one, times-xor, times-twice}
 use Rattle.definition.proofs.Xor.{⊕-swap, ⊕-zero, zero-⊕, double-⊕}
 
@@ -40,13 +40,13 @@ table (suc n) f = f 0 ∷ table n (λ k. f (suc k))
 
 small : List ℕ → Bool
 small [] = true
-small (c ∷ cs) = both (ltb c (2 ^ 7)) (small cs)
+small (c ∷ cs) = ltb c (2 ^ 7) && small cs
 
 -- no coefficient of n blocks reaches x^8 where it is doubled
 inField : ℕ → Form → Bool
 inField n (block i) = true
-inField n (e ⊞ f) = both (inField n e) (inField n f)
-inField n (twice e) = both (inField n e) (small (table n (coefficient e)))
+inField n (e ⊞ f) = inField n e && inField n f
+inField n (twice e) = inField n e && small (table n (coefficient e))
 
 -- a row of coefficients times the blocks
 rowOf : (ℕ → ℕ) → List Block → Block
@@ -91,7 +91,7 @@ reading (twice e) bs t =
 
 allInField : ℕ → List Form → Bool
 allInField n [] = true
-allInField n (e ∷ es) = both (inField n e) (allInField n es)
+allInField n (e ∷ es) = inField n e && allInField n es
 
 readings : (es : List Form) (bs : List Block) → T (allInField (length bs) es)
     → map (value bs) es ≡ map (λ cs. row cs bs) (map (λ e. table (length bs) (coefficient e)) es)

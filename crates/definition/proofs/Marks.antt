@@ -23,7 +23,7 @@ use Rattle.definition.specs.Record.{wordsOfAll}
 use Rattle.definition.specs.Final.{final, finalRounds}
 use Rattle.definition.specs.Luffa.{widthAt, wordsAt, absorbed, luffa}
 use Rattle.definition.specs.Sheet.{q, N, F, roundsFrom}
-use Rattle.definition.specs.Marks.{held, markAt, blockFrom, stateFrom, markOf, marksAfter, digestAfter, roundsAfter, worked, TrueMarks}
+use Rattle.definition.specs.Marks.{held, markAt, blockFrom, stateFrom, markOf, marksAfter, digestAfter, roundsAfter, worked, TrueMark, TrueMarks}
 use Rattle.definition.proofs.Chain.{chain-append, blocks-of-state, length-chain, length-start}
 use Rattle.definition.proofs.Padding.{blocks-append, length-padding}
 
@@ -47,9 +47,9 @@ unfolding q
 length-before n m sheet h l = length-take-le (160 * m) sheet (omega arith) ∙ omega arith
 
 -- the digest worked from a true mark is Luffa of the whole sheet
-pub digest-from-mark : (code n m : ℕ) (sheet marks : List ℕ) → TrueMarks code n sheet marks → m ≤ q n → 40 * n ≤ length sheet
+pub digest-from-mark : (code n m : ℕ) (sheet marks : List ℕ) → TrueMark code sheet marks m → m ≤ q n → 40 * n ≤ length sheet
     → worked code n sheet marks m .digest ≡ luffa code (held n sheet)
-unfolding worked digestAfter luffa absorbed TrueMarks
+unfolding worked digestAfter luffa absorbed TrueMark
 digest-from-mark code n m sheet marks t h l =
     let w : Width = widthAt code in
     let y : List ℕ = take (160 * m) sheet in
@@ -59,7 +59,7 @@ digest-from-mark code n m sheet marks t h l =
     ∙ ap blocks (padded-append (5 * m) closing y x (length-before n m sheet h l))
     ∙ blocks-append (5 * m) y (padded closing x) (length-before n m sheet h l) in
     ap (λ (s : List Block). bytesOfAll (final w (wordsAt code) s))
-    (ap (λ (s : List Block). chain w s (blocks (padded closing x))) (t m h)
+    (ap (λ (s : List Block). chain w s (blocks (padded closing x))) t
     ∙ sym (chain-append w (start w) (blocks y) (blocks (padded closing x)))
     ∙ ap (chain w (start w)) (sym b))
 
@@ -210,10 +210,10 @@ later w n m j k sheet marks s p a b l r e f =
 
 -- after work from a mark, with the marks up to it true, all marks of the sheet are true
 pub marks-after-work : (code n m : ℕ) (sheet marks : List ℕ)
-    → ((k : ℕ) → k ≤ m → stateFrom (widthAt code) (markAt marks k) ≡ chain (widthAt code) (start (widthAt code)) (blocks (take (160 * k) sheet)))
+    → ((k : ℕ) → k ≤ m → TrueMark code sheet marks k)
     → m ≤ q n → 40 * n ≤ length sheet → 40 * (q n + 1) ≤ length marks
     → TrueMarks code n sheet (worked code n sheet marks m .marks)
-unfolding TrueMarks worked
+unfolding TrueMarks TrueMark worked
 marks-after-work code n m sheet marks t h l r k e =
     let w : Width = widthAt code in
     let s : List Block = stateFrom w (markAt marks m) in

@@ -15,7 +15,7 @@ use Rattle.definition.specs.Word.{bit, fromBits}
 use Rattle.definition.specs.SubCrumb.{S, crumb, subWord, subCrumb}
 use Rattle.definition.specs.AppendixD.{Instruction, MOV, OR, XOR, AND, NOT, table4, execute, run, results, appendixD}
 use Rattle.definition.proofs.Bits.{bit-lt, bit-zero, bit-xor, bit-and, bit-or, bit-not, from-its-bits}
-use Rattle.definition.proofs.Cases.{Bits, none, more, everyBits, at-bits, both}
+use Rattle.definition.proofs.Cases.{Bits, none, more, everyBits, at-bits}
 
 -- each register holds a number of n bits
 abbrev Below : (n : ℕ) → List ℕ → Type 0

@@ -12,7 +12,7 @@ use lib.ListN.{getD}
 use Rattle.definition.specs.declared.Block.{Block}
 use Rattle.definition.specs.Block.{_⊕_, zeroBlock}
 use Rattle.definition.specs.Field.{double}
-use Rattle.definition.proofs.Cases.{Bits, none, more, everyBits, at-bits, both}
+use Rattle.definition.proofs.Cases.{Bits, none, more, everyBits, at-bits}
 
 -- at one digit, by its eight cases
 associates : List ℕ → Bool

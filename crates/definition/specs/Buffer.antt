@@ -1,8 +1,8 @@
--- What a call leaves in a buffer: some elements written at a place, the others as they were.
+-- What a call leaves in a buffer, some elements written at a place, the others as they were; and whether two buffers hold the same.
 use Prim.Native.Nat.{ℕ, _+_}
-use mathlib.Core.List.{List, _++_}
-use mathlib.Core.Bool.{Bool, true, false}
-use lib.Dec.{leb}
+use mathlib.Core.List.{List, [], _∷_, _++_}
+use mathlib.Core.Bool.{Bool, true, false, _&&_}
+use lib.Dec.{leb, eqb}
 use lib.ListN.{length, take, drop}
 
 -- p written from place i on
@@ -20,3 +20,10 @@ writeWhen false i p l = l
 
 unfoldable pub writeAt : ℕ → List ℕ → List ℕ → List ℕ
 writeAt i p l = writeWhen (leb (i + length p) (length l)) i p l
+
+-- the same elements, and as many
+abbrev pub same : List ℕ → List ℕ → Bool
+same [] [] = true
+same [] (y ∷ ys) = false
+same (x ∷ xs) [] = false
+same (x ∷ xs) (y ∷ ys) = eqb x y && same xs ys

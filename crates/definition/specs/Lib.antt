@@ -1,4 +1,4 @@
--- Luffa 2.0.1 as the source defines it, and of document 01's sheet what its examples need. A file for each part, in the source's order.
+-- Luffa 2.0.1 as the source defines it, and document 01's hash record, sheet and calls. A file for each part, in the source's order.
 pub mod Word
 pub mod Block
 pub mod Field
@@ -20,6 +20,7 @@ pub mod Record
 pub mod Calls
 pub mod Sheet
 pub mod Marks
+pub mod SheetCalls
 pub mod AppendixB
 pub mod AppendixD
 pub mod AppendixE

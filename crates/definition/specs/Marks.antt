@@ -91,10 +91,12 @@ worked code n sheet marks m =
       rounds = roundsAfter code x;
     }
 
--- marks are true when each of marks 0 to q holds the state after the groups before it
-unfoldable pub TrueMarks : (code n : ℕ) → (sheet marks : List ℕ) → Type 0
-TrueMarks code n sheet marks =
-    (m : ℕ)
-    → m ≤ q n
-    → stateFrom (widthAt code) (markAt marks m)
+-- mark m is true when it holds the state after the groups before it
+unfoldable pub TrueMark : (code : ℕ) → (sheet marks : List ℕ) → (m : ℕ) → Type 0
+TrueMark code sheet marks m =
+    stateFrom (widthAt code) (markAt marks m)
     ≡ chain (widthAt code) (start (widthAt code)) (blocks (take (groupBytes * m) sheet))
+
+-- the marks of a sheet of n records are true when each of marks 0 to q is
+unfoldable pub TrueMarks : (code n : ℕ) → (sheet marks : List ℕ) → Type 0
+TrueMarks code n sheet marks = (m : ℕ) → m ≤ q n → TrueMark code sheet marks m

@@ -55,3 +55,11 @@ pub struct Kept {
     pub pending: [u8; 32],
     pub count: u64,
 }
+
+// What a sheet call answers: the refusal number or 0, the records of the sheet, and the rounds run (document 01, "Sheet and marks").
+#[repr(C)]
+pub struct Answer {
+    pub number: u64,
+    pub count: u64,
+    pub rounds: u64,
+}

@@ -1,13 +1,13 @@
 -- The table's rule, by one test that antt computes over all its entries.
 -- Assumes nothing.
 use mathlib.Core.Path.{_≡_}
-use mathlib.Core.Bool.{Bool}
+use mathlib.Core.Bool.{Bool, _&&_}
 use Prim.Native.Nat.{ℕ, _+_, _*_, _<_}
 use lib.Dec.{T, eqb, eqb→eq}
 use lib.ListN.{getD}
 use Rattle.definition.specs.declared.Pair.{Pair}
 use Rattle.definition.proofs.Computed.{everything}
-use Rattle.definition.proofs.Cases.{both, both-left, both-right, everyBelow, at-below}
+use Rattle.definition.proofs.Cases.{both-left, both-right, everyBelow, at-below}
 use Rattle.permutation.specs.Lanes.{constantAt, tableRow, table}
 
 -- the two words of block j at step i
@@ -18,7 +18,7 @@ right-right : (i j : ℕ) → Bool
 right-right i j = eqb (getD table (10 * i + 5 + j) 0) (constantAt j i .right)
 
 right : (i j : ℕ) → Bool
-right i j = both (left-right i j) (right-right i j)
+right i j = left-right i j && right-right i j
 
 tested : T (everyBelow 8 (λ i. everyBelow 5 (right i)))
 unfolding everything right left-right right-right constantAt tableRow table
