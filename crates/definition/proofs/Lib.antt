@@ -22,4 +22,11 @@ pub mod Computed
 pub mod Vectors
 pub mod Sheet
 pub mod Marks
+pub mod Writes
+pub mod Outcomes
+pub mod Saves
+pub mod Build
+pub mod Answers
+pub mod Joined
+pub mod Demand3
 pub mod Examples

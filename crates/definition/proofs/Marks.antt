@@ -28,7 +28,7 @@ use Rattle.definition.proofs.Chain.{chain-append, blocks-of-state, leng
 use Rattle.definition.proofs.Padding.{blocks-append, length-padding}
 
 -- padding after whole blocks
-padded-append : (n last : ℕ) (y x : List ℕ) → length y ≡ n * 32 → padded last (y ++ x) ≡ y ++ padded last x
+pub padded-append : (n last : ℕ) (y x : List ℕ) → length y ≡ n * 32 → padded last (y ++ x) ≡ y ++ padded last x
 unfolding padded padding
 padded-append n last y x e =
     let m : length (y ++ x) % 32 ≡ length x % 32 = omega (arith, length-append y x) in
@@ -98,11 +98,11 @@ read W4 s = refl
 read W5 s = refl
 
 -- a mark holds the state that it was written from
-state-of-mark : (w : Width) (h : List Block) → length h ≡ blockCount w → stateFrom w (markOf h) ≡ h
+pub state-of-mark : (w : Width) (h : List Block) → length h ≡ blockCount w → stateFrom w (markOf h) ≡ h
 unfolding markOf
 state-of-mark w h e = read w (stateOf h) ∙ blocks-of-state w h e
 
-length-mark : (h : List Block) → length (markOf h) ≡ 40
+pub length-mark : (h : List Block) → length (markOf h) ≡ 40
 unfolding markOf wordsOfAll five wordsOf
 length-mark h = refl
 
@@ -191,22 +191,29 @@ later : (w : Width) (n m j k : ℕ) (sheet marks : List ℕ) (s : List Block) (p
     → 40 * (q n + 1) ≤ length marks
     → s ≡ chain w (start w) (blocks (take (160 * m) sheet))
     → p ≡ marksAfter w (q n - m) s (drop (160 * m) (held n sheet))
-    → stateFrom w (markAt (overwriteAt (40 * (m + 1)) p marks) k) ≡ chain w (start w) (blocks (take (160 * k) sheet))
+    → markAt (overwriteAt (40 * (m + 1)) p marks) k ≡ markOf (chain w (start w) (blocks (take (160 * k) sheet)))
 later w n m j k sheet marks s p a b l r e f =
     let x : List ℕ = drop (160 * m) (held n sheet) in
     let u : List ℕ = drop (40 * (m + 1) + length p) marks in
-    let c : List Block = chain w s (blocks (take (160 * (j + 1)) x)) in
     let g : 160 * (q n - m) ≤ length x = left n m sheet l in
-    let d : length c ≡ blockCount w =
-    length-chain w s (blocks (take (160 * (j + 1)) x))
-    (ap length e ∙ length-chain w (start w) (blocks (take (160 * m) sheet)) (length-start w)) in
-    ap (λ (i : ℕ). stateFrom w (markAt (overwriteAt (40 * (m + 1)) p marks) i)) (sym a)
-    ∙ ap (stateFrom w)
-    (mark-after m j p marks (omega arith) ∙ ap (λ (z : List ℕ). markAt (z ++ u) j) f ∙ marks-hold w (q n - m) j s x u (omega arith) g)
-    ∙ state-of-mark w c d
-    ∙ ap (λ (z : List Block). chain w z (blocks (take (160 * (j + 1)) x))) e
+    ap (markAt (overwriteAt (40 * (m + 1)) p marks)) (sym a)
+    ∙ mark-after m j p marks (omega arith)
+    ∙ ap (λ (z : List ℕ). markAt (z ++ u) j) f
+    ∙ marks-hold w (q n - m) j s x u (omega arith) g
+    ∙ ap markOf
+    (ap (λ (z : List Block). chain w z (blocks (take (160 * (j + 1)) x))) e
     ∙ up-to w n m j sheet (omega arith) l
-    ∙ ap (λ (i : ℕ). chain w (start w) (blocks (take (160 * i) sheet))) a
+    ∙ ap (λ (i : ℕ). chain w (start w) (blocks (take (160 * i) sheet))) a)
+
+-- work from a true mark writes the state after each later group, unused blocks zero
+pub mark-written : (code n m k : ℕ) (sheet marks : List ℕ) → TrueMark code sheet marks m → m < k → k ≤ q n → 40 * n ≤ length sheet
+    → 40 * (q n + 1) ≤ length marks
+    → markAt (worked code n sheet marks m .marks) k ≡ markOf (chain (widthAt code) (start (widthAt code)) (blocks (take (160 * k) sheet)))
+unfolding TrueMark worked
+mark-written code n m k sheet marks t h e l r =
+    let w : Width = widthAt code in
+    let s : List Block = stateFrom w (markAt marks m) in
+    later w n m (k - m - 1) k sheet marks s (marksAfter w (q n - m) s (drop (160 * m) (held n sheet))) (omega arith) e l r t refl
 
 -- after work from a mark, with the marks up to it true, all marks of the sheet are true
 pub marks-after-work : (code n m : ℕ) (sheet marks : List ℕ)
@@ -217,9 +224,10 @@ unfolding TrueMarks TrueMark worked
 marks-after-work code n m sheet marks t h l r k e =
     let w : Width = widthAt code in
     let s : List Block = stateFrom w (markAt marks m) in
-    let x : List ℕ = drop (160 * m) (held n sheet) in
-    let p : List ℕ = marksAfter w (q n - m) s x in
+    let p : List ℕ = marksAfter w (q n - m) s (drop (160 * m) (held n sheet)) in
+    let b : List Block = blocks (take (160 * k) sheet) in
     elim (decLe k m) [
       | yes d ↦ ap (stateFrom w) (mark-before (40 * (m + 1)) k p marks (omega arith) (omega arith)) ∙ t k d
-      | no d ↦ later w n m (k - m - 1) k sheet marks s p (omega arith) (omega arith) l r (t m (le-refl m)) refl
+      | no d ↦ ap (stateFrom w) (mark-written code n m k sheet marks (t m (le-refl m)) (omega arith) e l r)
+          ∙ state-of-mark w (chain w (start w) b) (length-chain w (start w) b (length-start w))
     ]

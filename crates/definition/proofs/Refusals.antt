@@ -2,7 +2,7 @@
 -- Assumes nothing.
 use mathlib.Core.Path.{_≡_, refl, sym, ap, ap₂, _∙_}
 use mathlib.Core.Bool.{Bool, true, false}
-use mathlib.Core.List.{List, [], _∷_}
+use mathlib.Core.List.{List, [], _∷_, _++_}
 use Prim.Native.Nat.{ℕ, zero, suc}
 use native.Mathlib.Omega.{arith}
 use Rattle.definition.specs.Refusal.{Refusal, pick, firstOf}
@@ -46,6 +46,20 @@ unfolding firstOf pick
 given-none none e = none
 given-none (more {b = true} h) e = absurd (omega arith)
 given-none (more {b = false} h) e = more (given-none h e)
+
+-- of a list that begins with another's refusals the front decides where one of its conditions holds
+pub front-given : {k : ℕ} (rs ss : List Refusal) → k ≡ firstOf rs → (k ≡ 0 → ⊥) → k ≡ firstOf (rs ++ ss)
+unfolding firstOf pick
+front-given [] ss e h = absurd (h e)
+front-given ((n, true) ∷ rs) ss e h = e
+front-given ((n, false) ∷ rs) ss e h = front-given rs ss e h
+
+-- else what comes after it
+pub rest-given : {k : ℕ} {rs : List Refusal} (ss : List Refusal) → Numbered rs → k ≡ firstOf rs → k ≡ 0 → firstOf (rs ++ ss) ≡ firstOf ss
+unfolding firstOf pick
+rest-given ss none e z = refl
+rest-given ss (more {b = true} h) e z = absurd (omega arith)
+rest-given ss (more {b = false} h) e z = rest-given ss h e z
 
 -- a refused call's buffer is as at entry; an accepted call's is what the call makes of it
 pub refused : (rs : List Refusal) (done before : List ℕ) (k : ℕ) → firstOf rs ≡ suc k

@@ -21,6 +21,7 @@ pub mod Calls
 pub mod Sheet
 pub mod Marks
 pub mod SheetCalls
+pub mod Run
 pub mod AppendixB
 pub mod AppendixD
 pub mod AppendixE
