@@ -15,7 +15,7 @@ use Rattle.definition.specs.State.{five}
 use Rattle.definition.specs.Buffer.{overwriteAt, writeAt}
 use Rattle.definition.specs.Record.{wordsOfAll, countWords, encode}
 use Rattle.definition.proofs.Word.{bytes-of-word}
-use Rattle.definition.proofs.Buffer.{write-at, overwriteAt-more, length-overwriteAt, length-writeAt}
+use Rattle.definition.proofs.Buffer.{write-at, writeAt-more}
 use Rattle.rounds.proofs.Parts.{part-rest}
 use Rattle.definition.proofs.Records.{length-bytes}
 
@@ -69,7 +69,7 @@ length-count n = length-bytes (countWords n)
 
 -- front, pending bytes and count, written one after the other, are the record
 pub written : (k : Kept) (b : List ℕ) → length b ≡ 208 → length (k .pending) ≡ 32
-    → writeAt 200 (bytesOfAll (countWords (k .count))) (overwriteAt 168 (k .pending) (writeAt 0 (bytesOfAll (frontWords k)) b))
+    → writeAt 200 (bytesOfAll (countWords (k .count))) (writeAt 168 (k .pending) (writeAt 0 (bytesOfAll (frontWords k)) b))
     ≡ encode k
 unfolding encode
 written k b h e =
@@ -78,8 +78,9 @@ written k b h e =
     let n : length p ≡ 168 = length-front k in
     let m : length v ≡ 8 = length-count (k .count) in
     let q : length (p ++ k .pending) ≡ 200 = omega (arith, length-append p (k .pending)) in
-    rw (write-at 0 p b (omega arith), overwriteAt-more 0 168 p (k .pending) b (omega arith) (omega arith))
-    (write-at 200 v (overwriteAt 0 (p ++ k .pending) b) (omega (arith, length-overwriteAt 0 (p ++ k .pending) b (omega arith)))
-    ∙ overwriteAt-more 0 200 (p ++ k .pending) v b (omega arith) (omega arith)
-    ∙ all-written (p ++ k .pending ++ v) b (omega (arith, length-append (p ++ k .pending) v))
+    let l : length (p ++ k .pending ++ v) ≡ 208 = omega (arith, length-append (p ++ k .pending) v) in
+    rw (writeAt-more 0 168 p (k .pending) b (omega arith) (omega arith))
+    (writeAt-more 0 200 (p ++ k .pending) v b (omega arith) (omega arith)
+    ∙ write-at 0 (p ++ k .pending ++ v) b (omega arith)
+    ∙ all-written (p ++ k .pending ++ v) b (omega arith)
     ∙ ap (λ (l : List ℕ). l ++ k .pending ++ v) (front-bytes k))

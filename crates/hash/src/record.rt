@@ -33,25 +33,13 @@ pub(crate) fn all_zero(s: &[u8]) -> bool
     true
 }
 
-// Bytes from place i on.
-fn put_bytes(b: &mut [u8], i: usize, t: &[u8])
-    requires { ⌜ i + length (now t) ≤ length (now b) ⌝ }
-    ensures { λ _. ⌜ now (b .exit) ≡ overwriteAt i (now (t .entry)) (now (b .entry)) ⌝ }
-{
-    let mut j = 0;
-    while j < t.len() {
-        b[i + j] = t[j];
-        j += 1;
-    }
-}
-
 // A buffer of 32 bytes with a slice written from a place on.
 pub(crate) fn pasted(p: [u8; 32], at: usize, t: &[u8]) -> [u8; 32]
     requires { ⌜ (at + length (now t) ≤ 32) × (length p ≡ 32) ⌝ }
     ensures { λ r. ⌜ r ≡ overwriteAt at (now (t .entry)) p ⌝ }
 {
     let mut q = p;
-    put_bytes(&mut q, at, t);
+    rounds::bytes::put_bytes(&mut q, at, t);
     q
 }
 
@@ -165,7 +153,7 @@ pub(crate) fn encode(k: Kept, b: &mut [u8])
     let low = (k.count % 4294967296) as u32;
     rounds::bytes::put_words(b, 0, &front);
     let pending = k.pending;
-    put_bytes(b, PENDING_AT, &pending);
+    rounds::bytes::put_bytes(b, PENDING_AT, &pending);
     rounds::bytes::put_words(b, COUNT_AT, &[high, low]);
 }
 

@@ -57,6 +57,23 @@ pub fn first_word(t: &[u8]) -> u32
     word_at(t, 0)
 }
 
+// Bytes, one after the other, from place i on; nothing where there is no room for them.
+pub fn put_bytes(b: &mut [u8], i: usize, t: &[u8])
+    ensures { λ _. ⌜ now (b .exit) ≡ writeAt i (now (t .entry)) (now (b .entry)) ⌝ }
+{
+    if b.len() < i {
+        return;
+    }
+    if b.len() - i < t.len() {
+        return;
+    }
+    let mut j = 0;
+    while j < t.len() {
+        b[i + j] = t[j];
+        j += 1;
+    }
+}
+
 // A word's four bytes, the highest first, from place i on; nothing where there is no room for them.
 pub fn put_word(out: &mut [u8], i: usize, a: u32)
     ensures { λ _. ⌜ now (out .exit) ≡ writeAt i (bytesOf a) (now (out .entry)) ⌝ }

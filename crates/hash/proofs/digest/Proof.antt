@@ -16,7 +16,8 @@ use Rattle.definition.specs.Refusal.{pick, firstOf, widthRefusal, outRefusal}
 use Rattle.definition.specs.Calls.{longRefusal, digestRefusals, digestOutcome}
 use Rattle.definition.proofs.Codes.{words-le}
 use Rattle.definition.proofs.Refusals.{refused, accepted}
-use Rattle.hash.proofs.Output.{squeezed-out, whole-message}
+use Rattle.rounds.proofs.Digests.{squeezed-out}
+use Rattle.hash.proofs.Output.{whole-message}
 use Rattle.hash.proofs.digest.Statement.{statement}
 use Rattle.hash.proofs.digest.Tie as tie
 

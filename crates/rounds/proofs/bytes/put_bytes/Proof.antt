@@ -1,4 +1,4 @@
--- `hash::record::put_bytes` meets its contract. The loop's invariant: the first j bytes are copied.
+-- `rounds::bytes::put_bytes` meets its contract. The loop's invariant: the first j bytes are copied.
 -- Assumes nothing.
 use mathlib.Core.Path.{_≡_, refl, sym, ap, _∙_}
 use mathlib.Core.List.{List, _++_}
@@ -9,8 +9,9 @@ use denote.Ref.{now}
 use lib.ListN.{length, take, drop, length-set}
 use lib.Seq.{paste, paste-zero, paste-suc, length-paste, take-length}
 use Rattle.definition.specs.Buffer.{overwriteAt}
-use Rattle.hash.proofs.record.put_bytes.Statement.{statement}
-use Rattle.hash.proofs.record.put_bytes.Tie as tie
+use Rattle.definition.proofs.Buffer.{write-at, write-not}
+use Rattle.rounds.proofs.bytes.put_bytes.Statement.{statement}
+use Rattle.rounds.proofs.bytes.put_bytes.Tie as tie
 
 abbrev Inv-loop : tie.InvT-loop
 Inv-loop b₀ i t j₀ b j =
@@ -19,9 +20,15 @@ Inv-loop b₀ i t j₀ b j =
 abbrev μ-loop : tie.MeasureT-loop
 μ-loop b₀ i t j₀ b j = length t - j
 
+returns : tie.Need-returns Inv-loop μ-loop
+returns c = sym (write-not _ _ _ (omega arith))
+
+returns-2 : tie.Need-returns-2 Inv-loop μ-loop
+returns-2 c = sym (write-not _ _ _ (omega arith))
+
 loop-holds : tie.Need-loop-holds Inv-loop μ-loop
 loop-holds c =
-    let a = c .args in
+    let a = c .before .before .args in
     (omega arith, (omega arith, omega arith), paste-zero (now (a .b)) (a .i) (now (a .t)))
 
 -- a buffer into which bytes were copied has its length
@@ -30,15 +37,14 @@ kept-length b b₀ t i j h r e = ap length e ∙ length-paste b₀ i t j (omega 
 
 slice-write-b : tie.Need-slice-write-b Inv-loop μ-loop
 slice-write-b c =
-    let a = c .before .before .before .args in
+    let a = c .before .before .before .before .before .args in
     let l = c .before .before .loop in
-    let e : length (l .b) ≡ length (now (a .b)) =
-    kept-length (l .b) (now (a .b)) (now (a .t)) (a .i) (l .j) (omega arith) (omega arith) (l .inv .2) in
-    omega arith
+    let e = kept-length (l .b) (now (a .b)) (now (a .t)) (a .i) (l .j) (omega arith) (omega arith) (l .inv .2) in
+    omega (arith, e)
 
 loop-again : tie.Need-loop-again Inv-loop μ-loop
 loop-again c =
-    let a = c .before .before .before .args in
+    let a = c .before .before .before .before .before .args in
     let l = c .before .before .loop in (
       omega arith,
       l .inv .1,
@@ -47,17 +53,18 @@ loop-again c =
 
 same-length : tie.Need-same-length Inv-loop μ-loop
 same-length c =
+    let a = c .before .before .before .before .args in
     let l = c .before .loop in
-    let a = c .before .before .args in
     kept-length (l .b) (now (a .b)) (now (a .t)) (a .i) (l .j) (omega arith) (omega arith) (l .inv .2)
 
-returns : tie.Need-returns Inv-loop μ-loop
+returns-3 : tie.Need-returns-3 Inv-loop μ-loop
 unfolding overwriteAt
-returns c =
-    let t = now (c .before .before .args .t) in
+returns-3 c =
+    let a = c .before .before .before .before .args in
+    let t = now (a .t) in
     let l = c .before .loop in
     let e : l .j ≡ length t = omega arith in
-    rw (e, take-length t) at (l .inv .2)
+    (rw (e, take-length t) at (l .inv .2)) ∙ sym (write-at (a .i) t (now (a .b)) (omega arith))
 
 pub put-bytes-spec : {M : Type 1} → statement M
 put-bytes-spec =
@@ -65,6 +72,9 @@ put-bytes-spec =
     (tie.spec
     Inv-loop
     μ-loop
+    returns
+    (λ c. omega arith)
+    returns-2
     loop-holds
     (λ c. omega arith)
     (λ c. omega arith)
@@ -73,4 +83,4 @@ put-bytes-spec =
     (λ c. omega arith)
     loop-again
     same-length
-    returns)
+    returns-3)
