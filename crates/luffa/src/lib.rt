@@ -2,6 +2,8 @@
 // them; a slice is a pointer and then a length.
 ghost use mathlib.Core.Path.{_≡_};
 ghost use Rattle.definition.specs.Calls.{digestOutcome, startOutcome, feedOutcome, finishOutcome};
+ghost use Rattle.definition.specs.SheetCalls.{buildOutcome, changeOutcome, appendOutcome, dropOutcome};
+use definition::Answer;
 
 // The digest of a message in one call.
 #[no_mangle]
@@ -33,4 +35,66 @@ pub extern "C" fn luffa_finish(record: &[u8], out: &mut [u8]) -> u32
     ensures { λ r. ⌜ record { number = r; buffer = now (out .exit) } ≡ finishOutcome (now («record» .entry)) (now (out .entry)) ⌝ }
 {
     hash::finish(record, out)
+}
+
+// All marks of a sheet, and its digest.
+#[no_mangle]
+pub extern "C" fn luffa_sheet_build(
+    code: usize,
+    sheet: &[u8],
+    n: usize,
+    marks: &mut [u32],
+    out: &mut [u8],
+) -> Answer
+    ensures { λ r. ⌜ record { answer = r; sheet = now (sheet .entry); marks = now (marks .exit); out = now (out .exit) } ≡ buildOutcome code (now (sheet .entry)) n (now (marks .entry)) (now (out .entry)) ⌝ }
+{
+    sheet::build(code, sheet, n, marks, out)
+}
+
+// A record replaced.
+#[no_mangle]
+pub extern "C" fn luffa_sheet_change(
+    code: usize,
+    sheet: &mut [u8],
+    n: usize,
+    marks: &mut [u32],
+    place: usize,
+    record: &[u8],
+    claim: &[u8],
+    out: &mut [u8],
+) -> Answer
+    ensures { λ r. ⌜ record { answer = r; sheet = now (sheet .exit); marks = now (marks .exit); out = now (out .exit) } ≡ changeOutcome code (now (sheet .entry)) n (now (marks .entry)) place (now («record» .entry)) (now (claim .entry)) (now (out .entry)) ⌝ }
+{
+    sheet::change(code, sheet, n, marks, place, record, claim, out)
+}
+
+// A record added at the end.
+#[no_mangle]
+pub extern "C" fn luffa_sheet_append(
+    code: usize,
+    sheet: &mut [u8],
+    n: usize,
+    marks: &mut [u32],
+    record: &[u8],
+    claim: &[u8],
+    out: &mut [u8],
+) -> Answer
+    ensures { λ r. ⌜ record { answer = r; sheet = now (sheet .exit); marks = now (marks .exit); out = now (out .exit) } ≡ appendOutcome code (now (sheet .entry)) n (now (marks .entry)) (now («record» .entry)) (now (claim .entry)) (now (out .entry)) ⌝ }
+{
+    sheet::append(code, sheet, n, marks, record, claim, out)
+}
+
+// The last record taken away.
+#[no_mangle]
+pub extern "C" fn luffa_sheet_drop(
+    code: usize,
+    sheet: &mut [u8],
+    n: usize,
+    marks: &mut [u32],
+    claim: &[u8],
+    out: &mut [u8],
+) -> Answer
+    ensures { λ r. ⌜ record { answer = r; sheet = now (sheet .exit); marks = now (marks .exit); out = now (out .exit) } ≡ dropOutcome code (now (sheet .entry)) n (now (marks .entry)) (now (claim .entry)) (now (out .entry)) ⌝ }
+{
+    sheet::drop(code, sheet, n, marks, claim, out)
 }

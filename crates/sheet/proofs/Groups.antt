@@ -1,0 +1,210 @@
+-- The work from a mark to the end, group by group: what is left to do from here gives the whole, and the whole is what the definition says.
+-- Assumes nothing.
+use mathlib.Core.Path.{_≡_, refl, sym, ap, ap₂, _∙_}
+use mathlib.Core.List.{List, [], _∷_, _++_}
+use Prim.Native.Nat.{ℕ, zero, suc, _+_, _-_, _*_, _/_, _%_, _^_, _<_, _≤_, min}
+use native.Mathlib.Omega.{arith}
+use lib.ListN.{length, take, drop, replicate, length-replicate, length-drop, take-append-drop}
+use lib.Seq.{length-take-le, take-take, take-add, drop-at, drop-drop}
+use Rattle.definition.specs.declared.Block.{Block}
+use Rattle.definition.specs.declared.Counted.{Counted}
+use Rattle.definition.specs.declared.State.{State}
+use Rattle.definition.specs.declared.Width.{Width}
+use Rattle.definition.specs.declared.Width.the-variants.{W3, W4, W5}
+use Rattle.definition.specs.Word.{bytesOfAll}
+use Rattle.definition.specs.Block.{zeroBlock, wordsOf}
+use Rattle.definition.specs.Round.{chain}
+use Rattle.definition.specs.Padding.{closing, padded, blocks}
+use Rattle.definition.specs.Start.{blockCount}
+use Rattle.definition.specs.State.{five, blocksIn, stateOf}
+use Rattle.definition.specs.Final.{final, finalRounds}
+use Rattle.definition.specs.Counted.{countedChain}
+use Rattle.definition.specs.Luffa.{widthAt, wordsAt, bytesAt}
+use Rattle.definition.specs.Buffer.{overwriteAt, overwrite}
+use Rattle.definition.specs.Record.{wordsOfAll}
+use Rattle.definition.specs.Sheet.{q}
+use Rattle.definition.specs.Marks.{held, markAt, stateFrom, markOf, marksAfter, digestAfter, roundsAfter, worked}
+use Rattle.definition.proofs.Buffer.{overwriteAt-more, length-overwriteAt, write-at, write-none}
+use Rattle.definition.proofs.Chain.{counted-append, counted-state, counted-blocks, counted-rounds}
+use Rattle.definition.proofs.Codes.{words-le}
+use Rattle.definition.proofs.Padding.{blocks-append}
+use Rattle.definition.proofs.Marks.{padded-append, padded-blocks, length-mark}
+use Rattle.rounds.proofs.Digests.{all-words, squeezed-out}
+
+-- the records held from place i on, where they lie in the sheet
+pub from-place : (i j : ℕ) (l : List ℕ) → i ≤ j → j ≤ length l → take (j - i) (drop i l) ≡ drop i (take j l)
+from-place i j l h n =
+    sym
+    (ap (drop i) (ap (λ (k : ℕ). take k l) {x = j} {y = i + (j - i)} (omega arith) ∙ take-add i (j - i) l)
+    ∙ drop-at (take i l) (take (j - i) (drop i l)) i (length-take-le i l (omega arith)))
+
+-- and a group of them
+group-there : (k n : ℕ) (sheet : List ℕ) → k < q n → 40 * n ≤ length sheet
+    → take (160 * k + 160 - 160 * k) (drop (160 * k) sheet) ≡ take 160 (drop (160 * k) (held n sheet))
+unfolding held q
+group-there k n sheet h l =
+    ap (λ (a : ℕ). take a (drop (160 * k) sheet)) {x = 160 * k + 160 - 160 * k} {y = 160} (omega arith)
+    ∙ sym (take-take 160 (40 * n - 160 * k) (drop (160 * k) sheet) (omega arith))
+    ∙ ap (take 160) (from-place (160 * k) (40 * n) sheet (omega arith) l)
+
+-- what is still to come from mark k on: the marks as they will be, and the state with its count after the padded rest
+pub record Ahead : Type 0 where
+  pub marks : List ℕ
+  pub counted : Counted
+
+unfoldable pub ahead : Width → (n : ℕ) → (sheet : List ℕ) → (k : ℕ) → Counted → (marks : List ℕ) → Ahead
+ahead w n sheet k c marks =
+    let x : List ℕ = drop (160 * k) (held n sheet) in
+    record {
+      marks = overwriteAt (40 * (k + 1)) (marksAfter w (q n - k) (blocksIn w (c .state)) x) marks;
+      counted = countedChain w c (blocks (padded closing x));
+    }
+
+-- a group's mark, and those after it
+marks-step : (w : Width) (j k : ℕ) (h : List Block) (x marks : List ℕ) → 40 * (k + 1) ≤ length marks
+    → overwriteAt (40 * (k + 1 + 1)) (marksAfter w j (chain w h (blocks (take 160 x))) (drop 160 x))
+    (overwriteAt (40 * (k + 1)) (markOf (chain w h (blocks (take 160 x)))) marks)
+    ≡ overwriteAt (40 * (k + 1)) (marksAfter w (suc j) h x) marks
+unfolding marksAfter
+marks-step w j k h x marks l =
+    let h' : List Block = chain w h (blocks (take 160 x)) in
+    overwriteAt-more (40 * (k + 1)) (40 * (k + 1 + 1)) (markOf h') (marksAfter w j h' (drop 160 x)) marks l (omega (arith, length-mark h'))
+
+-- a group's rounds, and those after it
+rounds-step : (w : Width) (c : Counted) (x : List ℕ) → 160 ≤ length x
+    → countedChain w (countedChain w c (blocks (take 160 x))) (blocks (padded closing (drop 160 x))) ≡ countedChain w c (blocks (padded closing x))
+rounds-step w c x l =
+    let e : length (take 160 x) ≡ 5 * 32 = length-take-le 160 x l in
+    sym (counted-append w c (blocks (take 160 x)) (blocks (padded closing (drop 160 x))))
+    ∙ ap (countedChain w c)
+    (sym (blocks-append 5 (take 160 x) (padded closing (drop 160 x)) e)
+    ∙ ap blocks (sym (padded-append 5 closing (take 160 x) (drop 160 x) e) ∙ ap (padded closing) (take-append-drop 160 x)))
+
+-- before the last mark a group is left
+group-left : (n k : ℕ) (sheet : List ℕ) → k < q n → 40 * n ≤ length sheet → 160 ≤ length (drop (160 * k) (held n sheet))
+unfolding held q
+group-left n k sheet h l = omega (arith, length-drop (160 * k) (take (40 * n) sheet), length-take-le (40 * n) sheet l)
+
+-- a mark written leaves the length
+pub length-written : (k : ℕ) (s : State) (marks : List ℕ) → 40 * (k + 1) ≤ length marks
+    → length (overwriteAt (40 * k) (wordsOfAll (five s)) marks) ≡ length marks
+unfolding wordsOfAll five wordsOf
+length-written k s marks h = length-overwriteAt (40 * k) (wordsOfAll (five s)) marks (omega arith)
+
+-- one group further on, with its mark written, the same is still to come
+pub group-on : (w : Width) (n k : ℕ) (c d : Counted) (sheet marks marks' : List ℕ) → k < q n → 40 * n ≤ length sheet
+    → 40 * (q n + 1) ≤ length marks
+    → d ≡ countedChain w c (blocks (take (160 * k + 160 - 160 * k) (drop (160 * k) sheet)))
+    → marks' ≡ overwriteAt (40 * (k + 1)) (wordsOfAll (five (d .state))) marks
+    → ahead w n sheet (k + 1) d marks' ≡ ahead w n sheet k c marks
+unfolding ahead markOf
+group-on w n k c d sheet marks marks' h l r e f =
+    let x : List ℕ = drop (160 * k) (held n sheet) in
+    let ms : List Block = blocks (take 160 x) in
+    let g : d ≡ countedChain w c ms = e ∙ ap (λ (t : List ℕ). countedChain w c (blocks t)) (group-there k n sheet h l) in
+    let y : drop (160 * (k + 1)) (held n sheet) ≡ drop 160 x =
+    ap (λ (i : ℕ). drop i (held n sheet)) {x = 160 * (k + 1)} {y = 160 * k + 160} (omega arith) ∙ sym (drop-drop 160 (160 * k) (held n sheet)) in
+    let b : blocksIn w (d .state) ≡ chain w (blocksIn w (c .state)) ms = ap (λ (t : Counted). blocksIn w (t .state)) g ∙ counted-blocks w c ms in
+    let m : marks' ≡ overwriteAt (40 * (k + 1)) (markOf (chain w (blocksIn w (c .state)) ms)) marks =
+    f ∙ ap (λ (s : State). overwriteAt (40 * (k + 1)) (wordsOfAll (five s)) marks) (ap (λ (t : Counted). t .state) g ∙ counted-state w c ms) in
+    let j : q n - k ≡ suc (q n - (k + 1)) = omega arith in
+    let p : overwriteAt (40 * (k + 1 + 1)) (marksAfter w (q n - (k + 1)) (blocksIn w (d .state)) (drop (160 * (k + 1)) (held n sheet))) marks'
+    ≡ overwriteAt (40 * (k + 1)) (marksAfter w (q n - k) (blocksIn w (c .state)) x) marks =
+    rw (y, b, m, j) (marks-step w (q n - (k + 1)) k (blocksIn w (c .state)) x marks (omega arith)) in
+    let t : countedChain w d (blocks (padded closing (drop (160 * (k + 1)) (held n sheet)))) ≡ countedChain w c (blocks (padded closing x)) =
+    rw (y, g) (rounds-step w c x (group-left n k sheet h l)) in
+    λ i. record { marks = p i; counted = t i }
+
+-- from the last mark on no mark is written
+nothing-written : (w : Width) (n : ℕ) (h : List Block) (x marks : List ℕ) → 40 * (q n + 1) ≤ length marks
+    → overwriteAt (40 * (q n + 1)) (marksAfter w (q n - q n) h x) marks ≡ marks
+unfolding marksAfter
+nothing-written w n h x marks r =
+    let i : ℕ = 40 * (q n + 1) in
+    let j : q n - q n ≡ 0 = omega arith in
+    rw j (sym (write-at i [] marks (omega arith)) ∙ write-none i marks r)
+
+last-marks : (w : Width) (n : ℕ) (c : Counted) (sheet marks : List ℕ) → 40 * (q n + 1) ≤ length marks → ahead w n sheet (q n) c marks .marks ≡ marks
+unfolding ahead
+last-marks w n c sheet marks r = nothing-written w n (blocksIn w (c .state)) (drop (160 * q n) (held n sheet)) marks r
+
+-- so the check leaves the marks
+pub check-leaves : (code n : ℕ) (sheet marks : List ℕ) → 40 * (q n + 1) ≤ length marks → worked code n sheet marks (q n) .marks ≡ marks
+unfolding worked
+check-leaves code n sheet marks r =
+    let w : Width = widthAt code in
+    nothing-written w n (stateFrom w (markAt marks (q n))) (drop (160 * q n) (held n sheet)) marks r
+
+-- a mark's state is that of its used blocks
+blocks-of-mark : (w : Width) (ws : List ℕ) → blocksIn w (stateOf (stateFrom w ws)) ≡ stateFrom w ws
+unfolding blocksIn five stateOf stateFrom blockCount
+blocks-of-mark W3 ws = refl
+blocks-of-mark W4 ws = refl
+blocks-of-mark W5 ws = refl
+
+-- the records held have few bytes, so that no count wraps
+short : (n m : ℕ) (sheet : List ℕ) → n ≤ 1024 → 40 * n ≤ length sheet → length (drop (160 * m) (held n sheet)) ≤ 40960
+unfolding held
+short n m sheet h l = omega (arith, length-drop (160 * m) (take (40 * n) sheet), length-take-le (40 * n) sheet l)
+
+no-wrap : (code before bytes a k z : ℕ) → before < 2 ^ 32 → a ≡ (before + k) % 2 ^ 64 → z ≡ finalRounds (wordsAt code) → k ≡ bytes / 32 + 1
+    → bytes ≤ 40960 → (a + z) % 2 ^ 64 ≡ before + (k + finalRounds (wordsAt code))
+unfolding finalRounds
+no-wrap code before bytes a k z b d e f g = omega (arith, words-le code)
+
+-- the whole, from mark m as found
+module _ (code n m before : ℕ) (sheet marks : List ℕ) (s : State) where
+  abbrev pub begun : Counted
+  begun = record { state = s; rounds = before }
+
+  abbrev pub rest-of : List ℕ
+  rest-of = drop (160 * m) (held n sheet)
+
+  abbrev pub absorbed-all : Counted
+  absorbed-all = countedChain (widthAt code) begun (blocks (padded closing rest-of))
+
+  -- what the last rounds were run over is all that was to come
+  pub absorbed-is : (k : ℕ) (c d : Counted) (marks' : List ℕ) → k ≡ q n → 40 * n ≤ length sheet
+      → ahead (widthAt code) n sheet k c marks' ≡ ahead (widthAt code) n sheet m begun marks
+      → d ≡ countedChain (widthAt code) c (blocks (padded closing (take (40 * n - 160 * (n / 4)) (drop (160 * (n / 4)) sheet))))
+      → d ≡ absorbed-all
+  unfolding ahead held q
+  absorbed-is k c d marks' g l f e =
+      e
+      ∙ ap (λ (x : List ℕ). countedChain (widthAt code) c (blocks (padded closing x))) (from-place (160 * (n / 4)) (40 * n) sheet (omega arith) l)
+      ∙ ap (λ (i : ℕ). countedChain (widthAt code) c (blocks (padded closing (drop (160 * i) (take (40 * n) sheet))))) (sym g)
+      ∙ ap (λ (a : Ahead). a .counted) f
+
+  module _ (e : s ≡ stateOf (stateFrom (widthAt code) (markAt marks m))) where
+    as-found : blocksIn (widthAt code) s ≡ stateFrom (widthAt code) (markAt marks m)
+    as-found = ap (blocksIn (widthAt code)) e ∙ blocks-of-mark (widthAt code) (markAt marks m)
+
+    pub marks-worked : (k : ℕ) (c : Counted) (marks' : List ℕ) → k ≡ q n → 40 * (q n + 1) ≤ length marks'
+        → ahead (widthAt code) n sheet k c marks' ≡ ahead (widthAt code) n sheet m begun marks
+        → marks' ≡ worked code n sheet marks m .marks
+    unfolding worked
+    marks-worked k c marks' g r f =
+        sym (last-marks (widthAt code) n c sheet marks' r)
+        ∙ ap (λ (a : Ahead). a .marks) (ap (λ (i : ℕ). ahead (widthAt code) n sheet i c marks') (sym g) ∙ f)
+        ∙ unfold ahead in rw as-found
+
+    pub digest-worked : (out : List ℕ) → bytesAt code ≤ length out
+        → bytesOfAll (final (widthAt code) (min (wordsAt code) (length out / 4)) (blocksIn (widthAt code) (absorbed-all .state)))
+        ≡ worked code n sheet marks m .digest
+    unfolding worked digestAfter
+    digest-worked out r = ap bytesOfAll (squeezed-out code begun (blocks (padded closing rest-of)) out r ∙ rw as-found)
+
+  -- the count is the number of rounds that the definition applies
+  pub rounds-worked : (out : List ℕ) → bytesAt code ≤ length out → n ≤ 1024 → before < 2 ^ 32 → 40 * n ≤ length sheet
+      → countedChain (widthAt code) absorbed-all (replicate (finalRounds (min (wordsAt code) (length out / 4))) zeroBlock) .rounds
+      ≡ before + worked code n sheet marks m .rounds
+  unfolding worked roundsAfter
+  rounds-worked out r h b l =
+      let w : Width = widthAt code in
+      let zs : List Block = replicate (finalRounds (min (wordsAt code) (length out / 4))) zeroBlock in
+      let ms : List Block = blocks (padded closing rest-of) in
+      let d : absorbed-all .rounds ≡ (before + length ms) % 2 ^ 64 = counted-rounds w begun ms (omega arith) in
+      counted-rounds w absorbed-all zs (omega arith)
+      ∙ no-wrap code before (length rest-of) (absorbed-all .rounds) (length ms) (length zs) b d
+      (length-replicate (finalRounds (min (wordsAt code) (length out / 4))) zeroBlock ∙ ap finalRounds (all-words code out r))
+      (padded-blocks closing rest-of) (short n m sheet h l)

@@ -1,0 +1,17 @@
+-- `sheet::mark::block_when` meets its contract: the block, or zero.
+-- Assumes nothing.
+use borrow.Author.Needs.{needs}
+use Rattle.sheet.specs.Used.{whenUsed}
+use Rattle.sheet.proofs.mark.block_when.Statement.{statement}
+use Rattle.sheet.proofs.mark.block_when.Tie as tie
+
+returns : tie.Need-returns
+unfolding whenUsed
+returns c = rw (c .before .if1 .taken) (c .block-at .ensures)
+
+returns-2 : tie.Need-returns-2
+unfolding whenUsed
+returns-2 c = rw (c .before .if1 .left) (c .zero .ensures)
+
+pub block-when-spec : {M : Type 1} → statement M
+block-when-spec = tie.close (tie.spec (λ c κs. search needs) returns (λ c κs. tt) returns-2)

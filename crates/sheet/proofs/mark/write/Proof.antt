@@ -1,0 +1,17 @@
+-- `sheet::mark::write` meets its contract: the words of the five blocks in order.
+-- Assumes nothing.
+use borrow.Author.Needs.{needs}
+use Rattle.definition.specs.Block.{wordsOf}
+use Rattle.definition.specs.State.{five}
+use Rattle.definition.specs.Record.{wordsOfAll}
+use Rattle.sheet.proofs.mark.write.Statement.{statement}
+use Rattle.sheet.proofs.mark.write.Tie as tie
+
+returns : tie.Need-returns
+unfolding wordsOfAll five wordsOf
+returns c = c .before .before .put .ensures
+
+pub write-spec : {M : Type 1} → statement M
+write-spec =
+    tie.close
+    (tie.spec (λ c. search needs) (λ c. search needs) (λ c κs. search needs) (λ c. search needs) returns)
