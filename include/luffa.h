@@ -1,6 +1,6 @@
 /*
  * luffa.h: Luffa digests (Luffa specification 2.0.1) of 224, 256, 384 and 512 bits, in one call or
- * piece by piece.
+ * piece by piece, and a sheet of records that is saved under its digest.
  *
  * Every call answers a number: LUFFA_DONE, or the first refusal that holds, in the order listed at
  * the call. A refused call has written nothing, so look at the answer before you use a buffer. The
@@ -8,8 +8,10 @@
  *
  * The caller's duties, which no call can judge:
  *   - Each pointer is valid for the length that follows it: for reading, and for writing too unless
- *     it points to const. Where the length is 0 the pointer may be null.
- *   - A buffer lent for writing overlaps no other buffer of the same call.
+ *     it points to const. Where the length is 0 the pointer may be null. Lengths are in bytes, that
+ *     of marks is in words.
+ *   - A buffer lent for writing overlaps no other buffer of the same call. So a claim isn't lent as
+ *     the output buffer too.
  *   - Until the call returns, nobody else writes to a lent buffer or reads one lent for writing.
  */
 #ifndef LUFFA_H
@@ -41,7 +43,7 @@ extern "C" {
 #define LUFFA_OUT 2    /* the output buffer is shorter than the digest */
 #define LUFFA_RECORD 3 /* the hash record isn't well formed, or has another length */
 #define LUFFA_LONG 4   /* the message would pass LUFFA_LIMIT */
-/* 5 to 11 are answers about a sheet; no call below gives them. */
+/* 5 to 11 are given by the sheet calls alone. */
 #define LUFFA_SHEET 5  /* too many records, or the buffer is too short for them */
 #define LUFFA_MARKS 6  /* too few words for the marks */
 #define LUFFA_PLACE 7  /* no record at this place */
@@ -96,6 +98,103 @@ uint32_t luffa_feed(uint8_t *record, size_t record_len, const uint8_t *piece, si
  *   2 LUFFA_OUT     out_len is less than the digest's bytes at the record's code
  */
 uint32_t luffa_finish(const uint8_t *record, size_t record_len, uint8_t *out, size_t out_len);
+
+/*
+ * A sheet is n records of 40 bytes, one after the other, n from 0 to LUFFA_SHEET_MOST. Its digest is
+ * luffa_digest's of these 40n bytes.
+ *
+ * Marks spare a save the hashing of the whole sheet. Four records are five blocks of the message;
+ * mark m is the state after the first 4m records, 40 words from marks[40 * m] on. A sheet of n
+ * records has marks 0 to n / 4. Codes 1 and 2 use the first 24 words of a mark and code 3 the first
+ * 32; the others are written as zero and never read. Words are the machine's own: to carry marks to
+ * another machine, build them there.
+ *
+ * The caller keeps the code, the records, their number n and the marks, and lends them to each call.
+ * The buffers may be larger than n needs: what lies behind is neither read nor written, but for the
+ * room that an append takes.
+ *
+ * A save goes like this:
+ *   - Open: build the marks, unless they were kept with the sheet, and keep the digest beside what
+ *     the planner sees.
+ *   - Save: change, append or drop with that digest as the claim. Where done, sheet and marks are
+ *     the new ones, the answer has the new n, and the digest in out is the claim of the next save.
+ *   - 11 LUFFA_STALE: somebody else has saved since. Nothing was written: open again and look.
+ * A claim speaks of content: a sheet that was changed and changed back has its old digest again.
+ *
+ * The duty that no call can judge: marks are those that build wrote for this sheet at this code, or
+ * that the saves since have left. A call takes the words as it finds them, and answers what follows
+ * from them; only from true marks is that the digest of the sheet. In doubt, build.
+ */
+#define LUFFA_SHEET_MOST 1024
+#define LUFFA_SHEET_RECORD_BYTES 40
+#define LUFFA_MARK_WORDS 40
+
+/* The words that the marks of n records need; LUFFA_MARKS_FOR(LUFFA_SHEET_MOST) suit every sheet. */
+#define LUFFA_MARKS_FOR(n) (LUFFA_MARK_WORDS * ((n) / 4 + 1))
+
+/* number is the answer. Where done, count is the number of records now and rounds are the rounds of
+   Luffa that were run. Where refused, count is the n given, and rounds are 0, except those in which
+   a stale claim was found out. */
+struct luffa_sheet_answer {
+    uint64_t number, count, rounds;
+};
+
+/*
+ * Writes every mark of the sheet, and its digest in the first bytes of out. In all sheet calls the
+ * bytes of out after the digest stay as they were.
+ *   1 LUFFA_WIDTH   code isn't 1 to 4
+ *   2 LUFFA_OUT     out_len is less than the digest's bytes at this code
+ *   5 LUFFA_SHEET   n is over LUFFA_SHEET_MOST, or sheet_len is less than 40n
+ *   6 LUFFA_MARKS   marks_len is less than LUFFA_MARKS_FOR(n)
+ */
+struct luffa_sheet_answer luffa_sheet_build(size_t code, const uint8_t *sheet, size_t sheet_len, size_t n,
+                                            uint32_t *marks, size_t marks_len, uint8_t *out, size_t out_len);
+
+/*
+ * Puts a record in the place of the one at `place`, counted from 0, rewrites the marks after it, and
+ * gives the new digest. A record equal to the old one is taken too.
+ *   1 LUFFA_WIDTH   code isn't 1 to 4
+ *   2 LUFFA_OUT     out_len is less than the digest's bytes at this code
+ *   5 LUFFA_SHEET   n is over LUFFA_SHEET_MOST, or sheet_len is less than 40n
+ *   6 LUFFA_MARKS   marks_len is less than LUFFA_MARKS_FOR(n)
+ *   7 LUFFA_PLACE   place is n or more
+ *   9 LUFFA_SIZE    record_len isn't LUFFA_SHEET_RECORD_BYTES
+ *  10 LUFFA_CLAIM   claim_len isn't the digest's bytes at this code
+ *  11 LUFFA_STALE   the claim isn't the digest of the sheet held
+ */
+struct luffa_sheet_answer luffa_sheet_change(size_t code, uint8_t *sheet, size_t sheet_len, size_t n, uint32_t *marks,
+                                             size_t marks_len, size_t place, const uint8_t *record, size_t record_len,
+                                             const uint8_t *claim, size_t claim_len, uint8_t *out, size_t out_len);
+
+/*
+ * Writes a record after the last, and a mark when it fills a group of four, and gives the new digest.
+ *   1 LUFFA_WIDTH   code isn't 1 to 4
+ *   2 LUFFA_OUT     out_len is less than the digest's bytes at this code
+ *   5 LUFFA_SHEET   n is over LUFFA_SHEET_MOST, or sheet_len is less than 40n
+ *   6 LUFFA_MARKS   marks_len is less than LUFFA_MARKS_FOR(n)
+ *   8 LUFFA_FULL    n is LUFFA_SHEET_MOST, or sheet_len or marks_len is too small for n + 1 records
+ *   9 LUFFA_SIZE    record_len isn't LUFFA_SHEET_RECORD_BYTES
+ *  10 LUFFA_CLAIM   claim_len isn't the digest's bytes at this code
+ *  11 LUFFA_STALE   the claim isn't the digest of the sheet held
+ */
+struct luffa_sheet_answer luffa_sheet_append(size_t code, uint8_t *sheet, size_t sheet_len, size_t n, uint32_t *marks,
+                                             size_t marks_len, const uint8_t *record, size_t record_len,
+                                             const uint8_t *claim, size_t claim_len, uint8_t *out, size_t out_len);
+
+/*
+ * Writes zeros over the last record, and over the last mark when n is a multiple of four, and gives
+ * the new digest. A later append uses the room again.
+ *   1 LUFFA_WIDTH   code isn't 1 to 4
+ *   2 LUFFA_OUT     out_len is less than the digest's bytes at this code
+ *   5 LUFFA_SHEET   n is over LUFFA_SHEET_MOST, or sheet_len is less than 40n
+ *   6 LUFFA_MARKS   marks_len is less than LUFFA_MARKS_FOR(n)
+ *   7 LUFFA_PLACE   n is 0
+ *  10 LUFFA_CLAIM   claim_len isn't the digest's bytes at this code
+ *  11 LUFFA_STALE   the claim isn't the digest of the sheet held
+ */
+struct luffa_sheet_answer luffa_sheet_drop(size_t code, uint8_t *sheet, size_t sheet_len, size_t n, uint32_t *marks,
+                                           size_t marks_len, const uint8_t *claim, size_t claim_len, uint8_t *out,
+                                           size_t out_len);
 
 #ifdef __cplusplus
 }

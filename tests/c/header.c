@@ -15,18 +15,42 @@ HOLDS(LUFFA_LIMIT == ((uint64_t)1 << 61) - 1);
 HOLDS(LUFFA_DONE == 0 && LUFFA_WIDTH == 1 && LUFFA_OUT == 2 && LUFFA_RECORD == 3 && LUFFA_LONG == 4);
 HOLDS(LUFFA_SHEET == 5 && LUFFA_MARKS == 6 && LUFFA_PLACE == 7 && LUFFA_FULL == 8 && LUFFA_SIZE == 9);
 HOLDS(LUFFA_CLAIM == 10 && LUFFA_STALE == 11);
+HOLDS(LUFFA_SHEET_MOST == 1024 && LUFFA_SHEET_RECORD_BYTES == 40 && LUFFA_MARK_WORDS == 40);
+HOLDS(LUFFA_MARKS_FOR(0) == 40 && LUFFA_MARKS_FOR(3) == 40 && LUFFA_MARKS_FOR(4) == 80);
+HOLDS(LUFFA_MARKS_FOR(LUFFA_SHEET_MOST) == 10280 && LUFFA_MARKS_FOR(1 + 2) == 40);
+HOLDS(sizeof(struct luffa_sheet_answer) == 24 && offsetof(struct luffa_sheet_answer, number) == 0 &&
+      offsetof(struct luffa_sheet_answer, count) == 8 && offsetof(struct luffa_sheet_answer, rounds) == 16);
 
 static uint32_t (*const digest)(size_t, const uint8_t *, size_t, uint8_t *, size_t) = luffa_digest;
 static uint32_t (*const start)(size_t, uint8_t *, size_t) = luffa_start;
 static uint32_t (*const feed)(uint8_t *, size_t, const uint8_t *, size_t) = luffa_feed;
 static uint32_t (*const finish)(const uint8_t *, size_t, uint8_t *, size_t) = luffa_finish;
 
+typedef struct luffa_sheet_answer answer;
+static answer (*const build)(size_t, const uint8_t *, size_t, size_t, uint32_t *, size_t, uint8_t *,
+                             size_t) = luffa_sheet_build;
+static answer (*const change)(size_t, uint8_t *, size_t, size_t, uint32_t *, size_t, size_t, const uint8_t *, size_t,
+                              const uint8_t *, size_t, uint8_t *, size_t) = luffa_sheet_change;
+static answer (*const append)(size_t, uint8_t *, size_t, size_t, uint32_t *, size_t, const uint8_t *, size_t,
+                              const uint8_t *, size_t, uint8_t *, size_t) = luffa_sheet_append;
+static answer (*const drop)(size_t, uint8_t *, size_t, size_t, uint32_t *, size_t, const uint8_t *, size_t, uint8_t *,
+                            size_t) = luffa_sheet_drop;
+
 int main(void)
 {
-    uint8_t record[LUFFA_RECORD_BYTES], out[LUFFA_512_BYTES];
+    uint8_t record[LUFFA_RECORD_BYTES], out[LUFFA_512_BYTES], claim[LUFFA_512_BYTES];
+    uint8_t sheet[LUFFA_SHEET_RECORD_BYTES] = {0}, line[LUFFA_SHEET_RECORD_BYTES] = {1};
+    uint32_t marks[LUFFA_MARKS_FOR(1)];
 
     return digest(LUFFA_224, NULL, 0, out, sizeof out) != LUFFA_DONE ||
            start(LUFFA_512, record, sizeof record) != LUFFA_DONE ||
            feed(record, sizeof record, NULL, 0) != LUFFA_DONE ||
-           finish(record, sizeof record, out, sizeof out) != LUFFA_DONE;
+           finish(record, sizeof record, out, sizeof out) != LUFFA_DONE ||
+           build(LUFFA_512, NULL, 0, 0, marks, LUFFA_MARKS_FOR(0), claim, sizeof claim).rounds != 3 ||
+           append(LUFFA_512, sheet, sizeof sheet, 0, marks, LUFFA_MARKS_FOR(0), line, sizeof line, claim, sizeof claim,
+                  out, sizeof out).count != 1 ||
+           change(LUFFA_512, sheet, sizeof sheet, 1, marks, LUFFA_MARKS_FOR(1), 1, line, sizeof line, out, sizeof out,
+                  claim, sizeof claim).number != LUFFA_PLACE ||
+           drop(LUFFA_512, sheet, sizeof sheet, 1, marks, LUFFA_MARKS_FOR(1), out, sizeof out, claim, sizeof claim)
+                   .count != 0;
 }
