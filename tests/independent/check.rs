@@ -1,9 +1,10 @@
 //! The program's check of itself. The values are typed in from Appendices B and C of the Luffa
 //! specification 2.0.1; the other side of each comparison is the specification's second wording of
 //! the same thing: the pseudo codes of 3.2 and 4.4, the equations of 4.2 and 4.3, and Appendices D
-//! and E.
+//! and E. For the sheet, values and formulas are document 01's.
 
 use crate::luffa::*;
+use crate::sheet::{Record, Saved, Sheet, MARK_WORDS, MOST};
 use std::fmt::Debug;
 
 /// The hash values of "abc" (Appendix C).
@@ -127,6 +128,10 @@ pub fn differences() -> Vec<String> {
     padding(&mut report, numbers);
     feeding(&mut report, numbers);
     final_words(&mut report, numbers);
+    sheet_examples(&mut report, numbers);
+    sheet_rounds(&mut report, numbers);
+    sheet_marks(&mut report, numbers);
+    sheet_saves(&mut report, numbers);
     report.0
 }
 
@@ -422,4 +427,149 @@ fn final_words(report: &mut Report, numbers: &mut Numbers) {
             );
         }
     }
+}
+
+fn record(numbers: &mut Numbers) -> Record {
+    [(); 40].map(|_| numbers.next() as u8)
+}
+
+fn sheet(numbers: &mut Numbers, code: usize, n: usize) -> Sheet {
+    let records = (0..n).map(|_| record(numbers)).collect();
+    Sheet { code, records }
+}
+
+/// The rounds of document 01's examples, and its refused place.
+fn sheet_examples(report: &mut Report, numbers: &mut Numbers) {
+    let number = |saved| match saved {
+        Saved::Done(rounds) => rounds,
+        refused => panic!("{refused:?}"),
+    };
+    for (code, n, wanted) in [(2, 0, 2), (2, 1, 3), (2, 4, 7), (4, MOST, 1283)] {
+        let got = sheet(numbers, code, n).build();
+        report.same(|| format!("build of {n} at code {code}"), got, wanted);
+    }
+    for (code, n, place, wanted) in [
+        (2, 5, 4, 6),
+        (2, 5, 0, 11),
+        (4, MOST, 0, 1286),
+        (4, MOST, 1023, 11),
+    ] {
+        let mut held = sheet(numbers, code, n);
+        let claim = held.digest();
+        let got = number(held.change(place, record(numbers), &claim));
+        report.same(|| format!("change at {place} of {n}"), got, wanted);
+    }
+    let mut held = sheet(numbers, 2, 5);
+    let claim = held.digest();
+    let got = held.change(5, record(numbers), &claim);
+    report.same(|| "change at 5 of 5".into(), got, Saved::NoPlace);
+
+    let mut held = sheet(numbers, 2, 3);
+    let claim = held.digest();
+    let got = number(held.append(record(numbers), &claim));
+    report.same(|| "append at 3".into(), (got, held.marks().len()), (12, 2));
+    let claim = held.digest();
+    let got = number(held.drop(&claim));
+    report.same(|| "drop at 4".into(), (got, held.marks().len()), (7, 1));
+}
+
+/// The rounds counted, against document 01's formulas.
+fn sheet_rounds(report: &mut Report, numbers: &mut Numbers) {
+    let blocks = |n: usize| (40 * n / 32 + 1) as u64;
+    let before = |place: usize| 5 * (place / 4) as u64;
+    for (code, f) in [(1, 1), (2, 1), (3, 2), (4, 2)] {
+        for n in 0..=25 {
+            let held = sheet(numbers, code, n);
+            let claim = held.digest();
+            let check = (n % 4) as u64 + 1 + f;
+            let mut same = |what: &str, got, wanted| {
+                report.same(|| format!("{what}, {n} records, code {code}"), got, wanted)
+            };
+            same(
+                "build",
+                Saved::Done(held.build()),
+                Saved::Done(blocks(n) + f),
+            );
+            for place in 0..n {
+                let got = held.clone().change(place, record(numbers), &claim);
+                let wanted = Saved::Done(check + blocks(n) - before(place) + f);
+                same("change", got, wanted);
+            }
+            let got = held.clone().append(record(numbers), &claim);
+            let wanted = Saved::Done(check + blocks(n + 1) - before(n) + f);
+            same("append", got, wanted);
+            let wanted = match n.checked_sub(1) {
+                Some(fewer) => Saved::Done(check + blocks(fewer) - before(fewer) + f),
+                None => Saved::NoPlace,
+            };
+            same("drop", held.clone().drop(&claim), wanted);
+            let mut wrong = claim;
+            wrong[n] ^= 1;
+            same(
+                "stale append",
+                held.clone().append([0; 40], &wrong),
+                Saved::Stale(check),
+            );
+        }
+    }
+}
+
+/// Marks noted on the way are those worked out one by one, and from the words of each the rest of
+/// the sheet gives the digest of the whole; words of unused blocks don't matter.
+fn sheet_marks(report: &mut Report, numbers: &mut Numbers) {
+    for (code, (w, count)) in (1..).zip(CODES) {
+        for n in 0..=25 {
+            let held = sheet(numbers, code, n);
+            let what = |m| format!("mark {m} of {n} records at code {code}");
+            let marks = held.marks();
+            report.same(|| what(n / 4) + ", the last", marks.len(), n / 4 + 1);
+            for (m, &mark) in marks.iter().enumerate() {
+                report.same(|| what(m), held.mark(m), mark);
+                let mut found = mark;
+                for word in &mut found[8 * w..MARK_WORDS] {
+                    report.same(|| what(m) + ", unused", *word, 0);
+                    *word = numbers.next();
+                }
+                let mut hash = Luffa::at(w, &found);
+                hash.update(held.records[4 * m..].as_flattened());
+                let got: Vec<u8> = hash
+                    .finish(count)
+                    .0
+                    .iter()
+                    .flat_map(|z| z.to_be_bytes())
+                    .collect();
+                report.same(|| what(m) + " fed on", got, held.digest());
+            }
+        }
+    }
+}
+
+/// Two planners with the same digest: the second to save is stale, until the first has changed back
+/// what it changed. An append is undone by a drop, and a full sheet takes no more.
+fn sheet_saves(report: &mut Report, numbers: &mut Numbers) {
+    for code in 1..=4 {
+        let mut held = sheet(numbers, code, 6);
+        let (old, opened) = (held.records[2], held.digest());
+        let done = |saved| matches!(saved, Saved::Done(_));
+        let stale = |saved| matches!(saved, Saved::Stale(_));
+        let first = done(held.change(2, record(numbers), &opened));
+        let now = held.digest();
+        let second = stale(held.clone().drop(&opened)) && stale(held.clone().append(old, &opened));
+        let back = done(held.change(2, old, &now));
+        let again = done(held.append(old, &opened));
+        let longer = held.digest();
+        let undone = done(held.drop(&longer)) && held.digest() == opened;
+        report.same(
+            || format!("two planners at code {code}"),
+            [first, second, back, again, undone],
+            [true; 5],
+        );
+    }
+    let mut full = sheet(numbers, 3, MOST);
+    let claim = full.digest();
+    report.same(
+        || "append at 1,024".into(),
+        full.append([0; 40], &claim),
+        Saved::Full,
+    );
 }

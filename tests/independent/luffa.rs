@@ -308,26 +308,54 @@ pub struct Luffa {
     /// The bytes fed since the last full message block, in the first `held` places.
     pending: [u8; 32],
     held: usize,
+    /// The rounds run so far. Whoever wants to count some of them sets it.
+    pub rounds: u64,
 }
 
 impl Luffa {
     /// Nothing fed yet: H_j is V_j.
     pub fn new(w: usize) -> Luffa {
+        Luffa::at(w, V.as_flattened())
+    }
+
+    /// Whole blocks fed, and then this state: H_j is words 8j to 8j + 7. No others are read.
+    pub fn at(w: usize, state: &[u32]) -> Luffa {
         assert!((3..=5).contains(&w));
         let tables = Tables::get();
+        let mut h = [[0; 4]; 5];
+        for (h_j, words) in h.iter_mut().zip(state[..8 * w].as_chunks().0) {
+            *h_j = tables.columns(words);
+        }
         Luffa {
             tables,
             w,
-            h: V.map(|v| tables.columns(&v)),
+            h,
             pending: [0; 32],
             held: 0,
+            rounds: 0,
         }
+    }
+
+    /// The state after the whole blocks fed so far, as words; those of blocks that w leaves unused
+    /// are zero.
+    pub fn state(&self) -> [u32; 40] {
+        let mut state = [0; 40];
+        for (words_j, h_j) in state.as_chunks_mut().0.iter_mut().zip(&self.h[..self.w]) {
+            *words_j = words(h_j);
+        }
+        state
+    }
+
+    /// Every round is run here, and counted.
+    fn round(&mut self, m: &Block) {
+        self.tables.round(&mut self.h[..self.w], m);
+        self.rounds += 1;
     }
 
     /// A round with the message block m.
     fn take(&mut self, m: &[u8; 32]) {
         let m = self.tables.message_columns(m);
-        self.tables.round(&mut self.h[..self.w], &m);
+        self.round(&m);
     }
 
     /// Takes the next bytes of the message.
@@ -355,28 +383,31 @@ impl Luffa {
     /// The first `count` words of the final stage for the bytes fed so far, and the number of blank
     /// rounds that were run for them. The hash can be fed on afterwards.
     pub fn finish(&self, count: usize) -> (Vec<u32>, u64) {
-        // Padding (3.1). Fewer than 32 bytes are ever held, so the 1 and its zeros always fit.
+        self.padded().final_stage(count)
+    }
+
+    /// The hash with its last block taken (3.1). Fewer than 32 bytes are ever held, so the 1 and its
+    /// zeros always fit.
+    pub fn padded(&self) -> Luffa {
         let mut last = [0; 32];
         last[..self.held].copy_from_slice(&self.pending[..self.held]);
         last[self.held] = 0x80;
         let mut padded = self.clone();
         padded.take(&last);
-        padded.final_stage(count)
+        padded
     }
 
     /// Z_0, Z_1, ... (3.3 and 5) from the state as it is, with a blank round before each.
     pub fn final_stage(mut self, count: usize) -> (Vec<u32>, u64) {
-        let h = &mut self.h[..self.w];
+        let before = self.rounds;
         let mut output = Vec::new();
-        let mut blank_rounds = 0;
         while output.len() < count {
-            self.tables.round(h, &[0; 4]);
-            blank_rounds += 1;
-            let z = h.iter().fold([0; 4], |z, h_j| xor(&z, h_j));
+            self.round(&[0; 4]);
+            let z = self.h[..self.w].iter().fold([0; 4], |z, h_j| xor(&z, h_j));
             output.extend(words(&z));
         }
         output.truncate(count);
-        (output, blank_rounds)
+        (output, self.rounds - before)
     }
 }
 

@@ -4,6 +4,7 @@
 
 mod check;
 mod luffa;
+mod sheet;
 
 use luffa::{digest, Luffa, CODES};
 use std::fs::File;
