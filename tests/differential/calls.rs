@@ -2,7 +2,8 @@
 //! every byte lent, with those around it, must agree.
 
 use crate::model;
-use std::fmt::Write;
+use crate::sheet_model::{self, Answer, Call, Given};
+use std::fmt::{Debug, Write};
 
 extern "C" {
     fn luffa_digest(
@@ -15,20 +16,94 @@ extern "C" {
     fn luffa_start(code: usize, record: *mut u8, record_len: usize) -> u32;
     fn luffa_feed(record: *mut u8, record_len: usize, piece: *const u8, piece_len: usize) -> u32;
     fn luffa_finish(record: *const u8, record_len: usize, out: *mut u8, out_len: usize) -> u32;
+    fn luffa_sheet_build(
+        code: usize,
+        sheet: *const u8,
+        sheet_len: usize,
+        n: usize,
+        marks: *mut u32,
+        marks_len: usize,
+        out: *mut u8,
+        out_len: usize,
+    ) -> Answer;
+    fn luffa_sheet_change(
+        code: usize,
+        sheet: *mut u8,
+        sheet_len: usize,
+        n: usize,
+        marks: *mut u32,
+        marks_len: usize,
+        place: usize,
+        record: *const u8,
+        record_len: usize,
+        claim: *const u8,
+        claim_len: usize,
+        out: *mut u8,
+        out_len: usize,
+    ) -> Answer;
+    fn luffa_sheet_append(
+        code: usize,
+        sheet: *mut u8,
+        sheet_len: usize,
+        n: usize,
+        marks: *mut u32,
+        marks_len: usize,
+        record: *const u8,
+        record_len: usize,
+        claim: *const u8,
+        claim_len: usize,
+        out: *mut u8,
+        out_len: usize,
+    ) -> Answer;
+    fn luffa_sheet_drop(
+        code: usize,
+        sheet: *mut u8,
+        sheet_len: usize,
+        n: usize,
+        marks: *mut u32,
+        marks_len: usize,
+        claim: *const u8,
+        claim_len: usize,
+        out: *mut u8,
+        out_len: usize,
+    ) -> Answer;
 }
 
-/// A buffer to lend, with watched bytes on both sides. It starts at an odd address.
-struct Lent(Vec<u8>);
+/// A buffer to lend, with watched bytes on both sides.
+struct Lent {
+    all: Vec<u8>,
+    before: usize,
+}
 
+/// The bytes watched on each side; on words, up to three more come before them.
 const EDGE: usize = 61;
 
 impl Lent {
+    fn after(before: usize, bytes: &[u8]) -> Lent {
+        let all = [&vec![0xa5; before], bytes, &[0x5a; EDGE]].concat();
+        Lent { all, before }
+    }
+
+    /// Bytes at an odd address.
     fn new(bytes: &[u8]) -> Lent {
-        Lent([&[0xa5; EDGE], bytes, &[0x5a; EDGE]].concat())
+        Lent::after(EDGE, bytes)
+    }
+
+    /// Words, which must stand at a multiple of four.
+    fn words(words: &[u32]) -> Lent {
+        let bytes: Vec<u8> = words.iter().flat_map(|word| word.to_ne_bytes()).collect();
+        (EDGE..EDGE + 4)
+            .map(|before| Lent::after(before, &bytes))
+            .find(|lent| lent.all[lent.before..].as_ptr() as usize % 4 == 0)
+            .expect("memory at a multiple of four")
     }
 
     fn pointer(&mut self) -> *mut u8 {
-        self.0[EDGE..].as_mut_ptr()
+        self.all[self.before..].as_mut_ptr()
+    }
+
+    fn inside(&self) -> &[u8] {
+        &self.all[self.before..self.all.len() - EDGE]
     }
 }
 
@@ -40,25 +115,24 @@ fn hex(bytes: &[u8]) -> String {
 }
 
 /// Compares numbers and buffers; `call` and the buffers as they were tell what was called.
-fn agree(
+fn agree<T: PartialEq + Debug>(
     call: &str,
     before: &[&[u8]],
-    got: u32,
-    want: u32,
+    got: T,
+    want: T,
     after: &[(Lent, &[u8])],
-) -> Result<u32, String> {
+) -> Result<T, String> {
     let mut different = String::new();
     if got != want {
-        writeln!(different, "  answered {got}, wanted {want}").unwrap();
+        writeln!(different, "  answered {got:?}, wanted {want:?}").unwrap();
     }
     for (k, (lent, wanted)) in after.iter().enumerate() {
-        let wanted = Lent::new(wanted);
-        if let Some(at) = (0..wanted.0.len()).find(|&i| lent.0[i] != wanted.0[i]) {
-            let inside = |all: &[u8]| hex(&all[EDGE..all.len() - EDGE]);
-            let at = at as isize - EDGE as isize;
+        let wanted = Lent::after(lent.before, wanted);
+        if let Some(at) = (0..wanted.all.len()).find(|&i| lent.all[i] != wanted.all[i]) {
+            let at = at as isize - lent.before as isize;
             writeln!(different, "  buffer {k} differs, first at byte {at}").unwrap();
-            writeln!(different, "    holds  {}", inside(&lent.0)).unwrap();
-            writeln!(different, "    wanted {}", inside(&wanted.0)).unwrap();
+            writeln!(different, "    holds  {}", hex(lent.inside())).unwrap();
+            writeln!(different, "    wanted {}", hex(wanted.inside())).unwrap();
         }
     }
     if different.is_empty() {
@@ -129,5 +203,63 @@ pub fn finish(record: &[u8], out: &mut [u8]) -> Result<u32, String> {
         got,
         want,
         &[(r, record), (o, out)],
+    )
+}
+
+pub fn sheet(call: Call, given: &mut Given) -> Result<Answer, String> {
+    let before = given.clone();
+    let want = sheet_model::answer(call, given);
+    let (mut s, mut m) = (Lent::new(&before.sheet), Lent::words(&before.marks));
+    let (mut r, mut c) = (Lent::new(&before.record), Lent::new(&before.claim));
+    let mut o = Lent::new(&before.out);
+    let (code, n) = (before.code, before.n);
+    let (sheet, sheet_len) = (s.pointer(), before.sheet.len());
+    let (marks, marks_len) = (m.pointer().cast(), before.marks.len());
+    let (record, record_len) = (r.pointer(), before.record.len());
+    let (claim, claim_len) = (c.pointer(), before.claim.len());
+    let (out, out_len) = (o.pointer(), before.out.len());
+    #[rustfmt::skip]
+    let got = unsafe {
+        match call {
+            Call::Build => luffa_sheet_build(
+                code, sheet, sheet_len, n, marks, marks_len, out, out_len,
+            ),
+            Call::Change => luffa_sheet_change(
+                code, sheet, sheet_len, n, marks, marks_len, before.place, record, record_len,
+                claim, claim_len, out, out_len,
+            ),
+            Call::Append => luffa_sheet_append(
+                code, sheet, sheet_len, n, marks, marks_len, record, record_len, claim, claim_len,
+                out, out_len,
+            ),
+            Call::Drop => luffa_sheet_drop(
+                code, sheet, sheet_len, n, marks, marks_len, claim, claim_len, out, out_len,
+            ),
+        }
+    };
+    let words = |words: &[u32]| Lent::words(words).inside().to_vec();
+    let what = format!(
+        "{call:?} at code {code}, n = {n}, place {}: buffer 0 the sheet, 1 the marks, 2 the record, \
+         3 the claim, 4 the output",
+        before.place
+    );
+    agree(
+        &what,
+        &[
+            &before.sheet,
+            &words(&before.marks),
+            &before.record,
+            &before.claim,
+            &before.out,
+        ],
+        got,
+        want,
+        &[
+            (s, &given.sheet),
+            (m, &words(&given.marks)),
+            (r, &before.record),
+            (c, &before.claim),
+            (o, &given.out),
+        ],
     )
 }

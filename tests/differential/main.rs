@@ -1,15 +1,20 @@
 //! The archive against a model of its calls over the separately written program, on random messages,
-//! cuts and records: differential [SEED [CASES]]. Case k of a seed is case 0 of the seed k higher, so
-//! that one that failed is run again alone.
+//! cuts, records and sheets: differential [SEED [CASES]]. Case k of a seed is case 0 of the seed k
+//! higher, so that one that failed is run again alone.
 
 mod calls;
+mod histories;
 mod model;
-mod rounds;
+mod sheet_model;
 
 #[path = "../independent/luffa.rs"]
 #[allow(dead_code)]
 mod luffa;
+#[path = "../independent/sheet.rs"]
+#[allow(dead_code)]
+mod sheet;
 
+use histories::Met;
 use model::{digest_bytes, state_end, well_formed, COUNT, LIMIT, PENDING, RECORD, STATE};
 use std::time::SystemTime;
 
@@ -97,6 +102,9 @@ impl Numbers {
 }
 
 type Agreed = Result<(), String>;
+
+/// The cases of a run that isn't told how many.
+const CASES: u64 = 8000;
 
 /// A message at every code: in one call, and in random pieces with a finish now and then.
 fn message(numbers: &mut Numbers) -> Agreed {
@@ -220,7 +228,7 @@ fn arguments(numbers: &mut Numbers) -> Agreed {
     calls::finish(&noise, &mut numbers.bytes(o)).map(drop)
 }
 
-fn case(seed: u64) -> Agreed {
+fn case(seed: u64, met: &mut Met) -> Agreed {
     let numbers = &mut Numbers(seed);
     message(numbers)?;
     for _ in 0..4 {
@@ -229,7 +237,7 @@ fn case(seed: u64) -> Agreed {
         malformed(numbers)?;
         arguments(numbers)?;
     }
-    Ok(())
+    histories::history(numbers, met)
 }
 
 fn main() {
@@ -241,14 +249,21 @@ fn main() {
         .duration_since(SystemTime::UNIX_EPOCH)
         .unwrap();
     let seed = given.first().copied().unwrap_or(now.as_nanos() as u64);
-    let cases = given.get(1).copied().unwrap_or(8000);
+    let cases = given.get(1).copied().unwrap_or(CASES);
     println!("differential: seed {seed}, {cases} cases");
+    let mut met = Met::default();
     for k in 0..cases {
         let this = seed.wrapping_add(k);
-        if let Err(what) = case(this) {
+        if let Err(what) = case(this, &mut met) {
             println!("{what}run again: tests/differential/run {this} 1");
             std::process::exit(1);
         }
+    }
+    let unmet = met.print();
+    // A few cases can't meet everything.
+    if cases >= CASES && !unmet.is_empty() {
+        println!("never met: {}", unmet.join("; "));
+        std::process::exit(1);
     }
     println!("differential: all agree");
 }

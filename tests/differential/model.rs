@@ -1,8 +1,7 @@
-//! The four calls by document 01's text: from what is lent to the number answered and what the
-//! buffers then hold, refusals included. A whole message is hashed by the separately written program.
+//! The calls over a message by document 01's text: from what is lent to the number answered and what
+//! the buffers then hold, refusals included. The separately written program does the hashing.
 
-use crate::luffa::{self, CODES};
-use crate::rounds::{absorb, output, V};
+use crate::luffa::{self, Luffa, CODES};
 
 pub const LIMIT: u64 = (1 << 61) - 1;
 
@@ -12,7 +11,7 @@ pub const STATE: usize = 8;
 pub const PENDING: usize = 168;
 pub const COUNT: usize = 200;
 
-fn known(code: usize) -> bool {
+pub fn known(code: usize) -> bool {
     (1..=4).contains(&code)
 }
 
@@ -49,7 +48,7 @@ pub fn start(code: usize, record: &mut [u8]) -> u32 {
     }
     record.fill(0);
     record[0] = code as u8;
-    put_words(V[..CODES[code - 1].0].as_flattened(), &mut record[STATE..]);
+    put_words(&Luffa::new(CODES[code - 1].0).state(), &mut record[STATE..]);
     0
 }
 
@@ -63,9 +62,9 @@ pub fn feed(record: &mut [u8], piece: &[u8]) -> u32 {
     }
     let bytes = [held(record), piece].concat();
     let (full, rest) = bytes.split_at(bytes.len() / 32 * 32);
-    let mut state = state(record);
-    absorb(&mut state, &blocks(full));
-    put_words(state.as_flattened(), &mut record[STATE..]);
+    let mut hash = hash_at(record);
+    hash.update(full);
+    put_words(&hash.state(), &mut record[STATE..]);
     record[PENDING..COUNT].fill(0);
     record[PENDING..PENDING + rest.len()].copy_from_slice(rest);
     record[COUNT..].copy_from_slice(&(count + piece.len() as u64).to_be_bytes());
@@ -80,11 +79,9 @@ pub fn finish(record: &[u8], out: &mut [u8]) -> u32 {
     if out.len() < digest_bytes(code) {
         return 2;
     }
-    let mut last = [held(record), &[0x80]].concat();
-    last.resize(32, 0);
-    let mut state = state(record);
-    absorb(&mut state, &blocks(&last));
-    put_words(&output(&state, CODES[code - 1].1), out);
+    let mut hash = hash_at(record);
+    hash.update(held(record));
+    put_words(&hash.finish(CODES[code - 1].1).0, out);
     0
 }
 
@@ -107,19 +104,19 @@ fn held(record: &[u8]) -> &[u8] {
     &record[PENDING..PENDING + (count_of(record) % 32) as usize]
 }
 
-fn state(record: &[u8]) -> Vec<[u32; 8]> {
-    blocks(&record[STATE..state_end(record[0] as usize)])
+/// The hash whose state the record has, without the pending bytes.
+fn hash_at(record: &[u8]) -> Luffa {
+    let word = |four: &[u8; 4]| u32::from_be_bytes(*four);
+    let state: Vec<u32> = record[STATE..PENDING]
+        .as_chunks()
+        .0
+        .iter()
+        .map(word)
+        .collect();
+    Luffa::at(CODES[record[0] as usize - 1].0, &state)
 }
 
-/// Whole blocks of eight words; a word's first byte is its highest (2.2).
-fn blocks(bytes: &[u8]) -> Vec<[u32; 8]> {
-    let word =
-        |block: &[u8], k: usize| u32::from_be_bytes(block[4 * k..4 * k + 4].try_into().unwrap());
-    let block = |block| [0, 1, 2, 3, 4, 5, 6, 7].map(|k| word(block, k));
-    bytes.chunks_exact(32).map(block).collect()
-}
-
-fn put_words(words: &[u32], to: &mut [u8]) {
+pub fn put_words(words: &[u32], to: &mut [u8]) {
     for (word, four) in words.iter().zip(to.chunks_exact_mut(4)) {
         four.copy_from_slice(&word.to_be_bytes());
     }

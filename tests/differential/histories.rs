@@ -1,0 +1,453 @@
+//! Histories of a sheet: built, then saved by two planners whose digests are at times outdated, with
+//! arguments that are at times refused and marks that are at times false. Every call goes through
+//! calls.rs; while the marks are true, the plain sheet of the separately written program is held
+//! beside it.
+
+use crate::calls;
+use crate::luffa::CODES;
+use crate::model::digest_bytes;
+use crate::sheet::{Saved, Sheet, MARK_WORDS, MOST, RECORD_BYTES};
+use crate::sheet_model::{held, refusals, Answer, Call, Given};
+use crate::{Agreed, Numbers};
+use std::collections::BTreeMap;
+
+const CALLS: [Call; 4] = [Call::Build, Call::Change, Call::Append, Call::Drop];
+
+/// How often each kind of thing was met.
+#[derive(Default)]
+pub struct Met(BTreeMap<String, u64>);
+
+impl Met {
+    fn see(&mut self, kind: String) {
+        *self.0.entry(kind).or_default() += 1;
+    }
+
+    fn times(&self, kind: &str) -> u64 {
+        self.0.get(kind).copied().unwrap_or(0)
+    }
+
+    /// Prints the counts, and answers the kinds that should have been met and weren't.
+    pub fn print(&self) -> Vec<String> {
+        println!("sheet calls, by the number answered:");
+        for call in CALLS {
+            let name = format!("{call:?}");
+            let times = |number| self.times(&format!("{call:?} answered {number}"));
+            let line = numbers_of(call).map(|number| format!(" {number}: {}", times(number)));
+            println!("  {name:<7}{}", line.collect::<String>());
+        }
+        let kinds = wanted();
+        if let Some(rarest) = kinds.iter().min_by_key(|kind| self.times(kind)) {
+            let (all, times) = (kinds.len(), self.times(rarest));
+            println!("  of {all} kinds to be met, the rarest came {times} times: {rarest}");
+        }
+        let unmet = kinds.into_iter().filter(|kind| self.times(kind) == 0);
+        unmet.collect()
+    }
+}
+
+/// Every kind that a whole run has to meet.
+fn wanted() -> Vec<String> {
+    let mut kinds: Vec<String> = [
+        "Append done, mark written",
+        "Drop done, mark zeroed",
+        "Append full at 1,024 alone",
+        "Append full for the sheet alone",
+        "Append full for the marks alone",
+        "words of an unused block set",
+    ]
+    .map(String::from)
+    .into();
+    for call in CALLS {
+        kinds.extend(numbers_of(call).map(|number| format!("{call:?} answered {number}")));
+        let refusals = || numbers_of(call).filter(|number| (1..=10).contains(number));
+        for a in refusals() {
+            kinds.push(format!("{call:?} with {a} alone"));
+            for b in refusals().filter(|&b| b > a) {
+                kinds.push(format!("{call:?} with {a} and {b}"));
+            }
+        }
+        for n in EDGES {
+            kinds.push(format!("{call:?} done, n = {n}"));
+        }
+        for code in 1..=4 {
+            kinds.push(format!("{call:?} done, code {code}"));
+            kinds.push(format!("{call:?} done, buffers just enough, code {code}"));
+        }
+        if call != Call::Build {
+            for what in [
+                "done, marks false",
+                "stale, marks false",
+                "stale, outdated digest",
+                "stale, last byte",
+            ] {
+                kinds.push(format!("{call:?} {what}"));
+            }
+        }
+    }
+    kinds.retain(|kind| !IMPOSSIBLE.iter().any(|end| kind.ends_with(end)));
+    kinds
+}
+
+/// Numbers of records at which each call must be done.
+const EDGES: [usize; 7] = [0, 1, 3, 4, 5, 1023, MOST];
+
+/// An unknown code has no digest length; a sheet of no records is never too short; marks too few for
+/// n are too few for n + 1.
+const IMPOSSIBLE: [&str; 7] = [
+    "with 1 and 2",
+    "with 1 and 10",
+    "Drop with 5 and 7",
+    "Append with 6 alone",
+    "Append done, n = 1024",
+    "Change done, n = 0",
+    "Drop done, n = 0",
+];
+
+/// The numbers that document 01 lets a call give.
+fn numbers_of(call: Call) -> impl Iterator<Item = u64> {
+    let numbers: &[u64] = match call {
+        Call::Build => &[0, 1, 2, 5, 6],
+        Call::Change => &[0, 1, 2, 5, 6, 7, 9, 10, 11],
+        Call::Append => &[0, 1, 2, 5, 6, 8, 9, 10, 11],
+        Call::Drop => &[0, 1, 2, 5, 6, 7, 10, 11],
+    };
+    numbers.iter().copied()
+}
+
+/// A sheet under way.
+struct History {
+    code: usize,
+    n: usize,
+    sheet: Vec<u8>,
+    marks: Vec<u32>,
+    /// The plain sheet, while the marks are true.
+    plain: Option<Sheet>,
+    /// The digest that each planner has seen last.
+    seen: [Vec<u8>; 2],
+}
+
+fn words_for(n: usize) -> usize {
+    MARK_WORDS * (n / 4 + 1)
+}
+
+impl Numbers {
+    fn words(&mut self, n: usize) -> Vec<u32> {
+        (0..n).map(|_| self.next() as u32).collect()
+    }
+
+    /// A number of records: those where a group or the sheet begins or ends, or any.
+    fn records(&mut self) -> usize {
+        match self.between(0, 299) {
+            0 => MOST,
+            1 => 1023,
+            2 => self.between(1000, MOST),
+            3..=9 => self.between(30, 150),
+            10..=150 => self.one_of(&[0, 1, 3, 4, 5]),
+            _ => self.between(0, 24),
+        }
+    }
+}
+
+/// A sheet of any bytes, with buffers that are just large enough or larger. Its marks are any words.
+fn any_sheet(numbers: &mut Numbers) -> History {
+    let n = numbers.records();
+    let room = n + numbers.one_of(&[0, 0, 1, 2, 6]);
+    let sheet = RECORD_BYTES * room + numbers.one_of(&[0, 0, 0, 1, 39]);
+    let room = n + numbers.one_of(&[0, 0, 1, 2, 6]);
+    let marks = words_for(room) + numbers.one_of(&[0, 0, 0, 1, 39]);
+    History {
+        code: numbers.code(),
+        n,
+        sheet: numbers.bytes(sheet),
+        marks: numbers.words(marks),
+        plain: None,
+        seen: [vec![], vec![]],
+    }
+}
+
+impl History {
+    /// A call as the planner means it, its record any bytes or at times those held.
+    fn given(&self, numbers: &mut Numbers, planner: usize) -> Given {
+        let place = match self.n {
+            0 => 0,
+            n => {
+                let any = numbers.between(0, n - 1);
+                numbers.one_of(&[0, n / 2, n - 1, any])
+            }
+        };
+        let d = digest_bytes(self.code);
+        let out = numbers.one_of(&[d, d, d + 1, 100]);
+        let same = self.n > 0 && numbers.between(0, 9) == 0;
+        Given {
+            code: self.code,
+            sheet: self.sheet.clone(),
+            n: self.n,
+            marks: self.marks.clone(),
+            place,
+            record: match same {
+                true => self.sheet[RECORD_BYTES * place..][..RECORD_BYTES].to_vec(),
+                false => numbers.bytes(RECORD_BYTES),
+            },
+            claim: self.seen[planner].clone(),
+            out: numbers.bytes(out),
+        }
+    }
+
+    /// Makes the call on both sides, judges it by the plain sheet too, and takes over what it left.
+    fn call(&mut self, call: Call, mut given: Given, met: &mut Met) -> Result<Answer, String> {
+        let (n, false_marks) = (given.n, self.plain.is_none());
+        let before = given.clone();
+        let hold = refusals(call, &given);
+        let answer = calls::sheet(call, &mut given)?;
+        let number = answer.number;
+
+        met.see(format!("{call:?} answered {number}"));
+        if let [one] = hold[..] {
+            met.see(format!("{call:?} with {one} alone"));
+        }
+        for (i, a) in hold.iter().enumerate() {
+            for b in &hold[i + 1..] {
+                met.see(format!("{call:?} with {a} and {b}"));
+            }
+        }
+        if number == 11 && false_marks {
+            met.see(format!("{call:?} stale, marks false"));
+        }
+        if number == 0 {
+            let most = if call == Call::Append { n + 1 } else { n };
+            met.see(format!("{call:?} done, code {}", self.code));
+            if EDGES.contains(&n) {
+                met.see(format!("{call:?} done, n = {n}"));
+            }
+            if before.sheet.len() == RECORD_BYTES * most && before.marks.len() == words_for(most) {
+                met.see(format!(
+                    "{call:?} done, buffers just enough, code {}",
+                    self.code
+                ));
+            }
+            if call != Call::Build && false_marks {
+                met.see(format!("{call:?} done, marks false"));
+            }
+            match call {
+                Call::Append if n % 4 == 3 => met.see("Append done, mark written".into()),
+                Call::Drop if n % 4 == 0 => met.see("Drop done, mark zeroed".into()),
+                _ => (),
+            }
+        }
+        if hold == [8] {
+            let sheet = before.sheet.len() < RECORD_BYTES * (n + 1);
+            let marks = before.marks.len() < words_for(n + 1);
+            match (n == MOST, sheet, marks) {
+                (true, false, false) => met.see("Append full at 1,024 alone".into()),
+                (false, true, false) => met.see("Append full for the sheet alone".into()),
+                (false, false, true) => met.see("Append full for the marks alone".into()),
+                _ => (),
+            }
+        }
+
+        // A call that was lent less of a buffer leaves the rest of it as it was.
+        if number == 0 {
+            self.n = given.n;
+            self.sheet[..given.sheet.len()].copy_from_slice(&given.sheet);
+            self.marks[..given.marks.len()].copy_from_slice(&given.marks);
+        }
+        if call == Call::Build && number == 0 {
+            let records = self.sheet.as_chunks().0[..self.n].to_vec();
+            let code = self.code;
+            self.plain = Some(Sheet { code, records });
+        }
+        if number == 0 || number == 11 || hold == [7] {
+            self.plain_agrees(call, &before, &answer, &given.out)?;
+        }
+        Ok(answer)
+    }
+
+    /// The plain sheet does the same: its answer, its records, its digest and the used words of all
+    /// marks must be those left.
+    fn plain_agrees(&mut self, call: Call, before: &Given, answer: &Answer, out: &[u8]) -> Agreed {
+        let Some(plain) = &mut self.plain else {
+            return Ok(());
+        };
+        let claim = &before.claim[..];
+        let record = || before.record[..].try_into().unwrap();
+        let saved = match call {
+            Call::Build => Saved::Done(plain.build()),
+            Call::Change => plain.change(before.place, record(), claim),
+            Call::Append => plain.append(record(), claim),
+            Call::Drop => plain.drop(claim),
+        };
+        let (number, rounds) = match saved {
+            Saved::Done(rounds) => (0, rounds),
+            Saved::NoPlace => (7, 0),
+            Saved::Full => (8, 0),
+            Saved::Stale(rounds) => (11, rounds),
+        };
+        let count = plain.records.len();
+        let want = Answer {
+            number,
+            count: count as u64,
+            rounds,
+        };
+        let what = format!("{call:?} at code {}, n = {}", before.code, before.n);
+        if *answer != want {
+            return Err(format!("{what}: {answer:?}, the plain sheet {want:?}\n"));
+        }
+        if self.sheet[..RECORD_BYTES * count] != *plain.records.as_flattened() {
+            return Err(format!("{what}: other records than the plain sheet's\n"));
+        }
+        if number == 0 && !out.starts_with(&plain.digest()) {
+            return Err(format!("{what}: another digest than the plain sheet's\n"));
+        }
+        let used = 8 * CODES[self.code - 1].0;
+        for (m, mark) in plain.marks().iter().enumerate() {
+            if self.marks[MARK_WORDS * m..][..used] != mark[..used] {
+                return Err(format!("{what}: mark {m} isn't the plain sheet's\n"));
+            }
+        }
+        Ok(())
+    }
+
+    /// One thing wrong with the arguments. Some are only wrong for some calls.
+    fn spoil(&self, given: &mut Given, numbers: &mut Numbers) {
+        let n = self.n;
+        let d = digest_bytes(self.code);
+        // 40 times this, or this plus 1 in words of marks, is small once it is cut to 64 bits.
+        let wraps = usize::MAX / 40 + 1;
+        match numbers.between(0, 13) {
+            0 => given.code = numbers.one_of(&[0, 5, 6, 1 << 8 | 2, 1 << 32 | 4, usize::MAX]),
+            1 => given.out.truncate(d - 1),
+            2 => {
+                let wide = 1 << 32;
+                given.n = numbers.one_of(&[MOST + 1, MOST + 4, wide, wide + n, wraps]);
+            }
+            3 => given.n = numbers.one_of(&[usize::MAX, usize::MAX - 3, 1 << 63, 1 << 62]),
+            4 => given.sheet.truncate((RECORD_BYTES * n).saturating_sub(1)),
+            5 => given
+                .marks
+                .truncate(words_for(n) - numbers.one_of(&[1, 40])),
+            6 => {
+                let wide = 1 << 32;
+                given.place = numbers.one_of(&[n, n + 1, wide, wraps, usize::MAX, 1 << 63]);
+            }
+            7 => given
+                .sheet
+                .truncate(RECORD_BYTES * n + numbers.one_of(&[0, 39])),
+            8 => given
+                .marks
+                .truncate(words_for(n) + numbers.one_of(&[0, 39])),
+            9 => {
+                let length = numbers.one_of(&[0, 1, 39, 41, 80]);
+                given.record.resize(length, 0);
+            }
+            10 => {
+                let length = numbers.one_of(&[0, d - 1, d + 1, 28, 32, 48, 64]);
+                given.claim.resize(length, 0);
+            }
+            11 => {
+                let at = numbers.between(0, d - 1);
+                given.claim.resize(d, 0);
+                given.claim[at] ^= 1 << numbers.between(0, 7);
+            }
+            12 => given.claim = numbers.bytes(d),
+            _ => {
+                // Too many, though the buffers have room for them.
+                given.n = MOST + 1;
+                given.sheet.resize(RECORD_BYTES * (MOST + 2), 0);
+                given.marks.resize(words_for(MOST + 2), 0);
+            }
+        }
+    }
+
+    fn open(&mut self, planner: usize, numbers: &mut Numbers, met: &mut Met) -> Agreed {
+        let given = self.given(numbers, planner);
+        let answer = self.call(Call::Build, given, met)?;
+        assert_eq!(answer.number, 0);
+        self.seen[planner] = self.plain.as_ref().unwrap().digest();
+        Ok(())
+    }
+
+    /// One planner's next doing.
+    fn step(&mut self, numbers: &mut Numbers, met: &mut Met) -> Agreed {
+        let planner = numbers.between(0, 1);
+        let call = numbers.one_of(&CALLS[1..]);
+        let d = digest_bytes(self.code);
+
+        let used = 8 * CODES[self.code - 1].0;
+        let some_mark = MARK_WORDS * numbers.between(0, self.n / 4);
+        match numbers.between(0, 19) {
+            0 => {
+                // A false mark. From here to the next build only the steps decide.
+                let at = some_mark + numbers.between(0, used - 1);
+                self.marks[at] ^= 1 << numbers.between(0, 31);
+                self.plain = None;
+            }
+            1 | 2 if used < MARK_WORDS => {
+                let at = some_mark + numbers.between(used, MARK_WORDS - 1);
+                self.marks[at] = numbers.next() as u32;
+                met.see("words of an unused block set".into());
+            }
+            3 => return self.open(planner, numbers, met),
+            _ => (),
+        }
+        if self.plain.is_none() && numbers.between(0, 3) == 0 {
+            return self.open(planner, numbers, met);
+        }
+
+        // With false marks a planner can know at best what the steps give.
+        let mut given = self.given(numbers, planner);
+        if self.plain.is_none() && numbers.between(0, 2) > 0 {
+            given.claim = held(&given).0;
+        }
+        let outdated = match &self.plain {
+            Some(plain) => plain.digest() != given.claim,
+            None => false,
+        };
+        match numbers.between(0, 5) {
+            0 => {
+                for _ in 0..numbers.one_of(&[1, 1, 2, 3]) {
+                    self.spoil(&mut given, numbers);
+                }
+                let call = numbers.one_of(&CALLS);
+                self.call(call, given, met)?;
+                return Ok(());
+            }
+            1 if !outdated => {
+                let any = numbers.between(0, d - 1);
+                let at = numbers.one_of(&[0, d - 1, d - 1, any]);
+                given.claim[at] ^= 1 << numbers.between(0, 7);
+                let answer = self.call(call, given, met)?;
+                if answer.number == 11 && at == d - 1 {
+                    met.see(format!("{call:?} stale, last byte"));
+                }
+                return Ok(());
+            }
+            _ => (),
+        }
+        let answer = self.call(call, given, met)?;
+        match answer.number {
+            11 if outdated => {
+                met.see(format!("{call:?} stale, outdated digest"));
+                if numbers.between(0, 1) == 0 {
+                    self.open(planner, numbers, met)?;
+                }
+            }
+            0 => {
+                if let Some(plain) = &self.plain {
+                    self.seen[planner] = plain.digest();
+                }
+            }
+            _ => (),
+        }
+        Ok(())
+    }
+}
+
+pub fn history(numbers: &mut Numbers, met: &mut Met) -> Agreed {
+    let mut history = any_sheet(numbers);
+    history.open(0, numbers, met)?;
+    history.seen[1] = history.seen[0].clone();
+    for _ in 0..numbers.between(2, 14) {
+        history.step(numbers, met)?;
+    }
+    Ok(())
+}
