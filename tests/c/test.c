@@ -58,8 +58,9 @@ static size_t watched(const struct lent *l, uint8_t **from)
 
 /* Lends a copy of n bytes, or any n bytes where there are none to copy. As it falls, they stand
    against the page before the room, against the one after it, so that an access outside them is seen
-   on either side, or at any address between. A buffer of no bytes may be a null pointer. */
-static uint8_t *lend(struct lent *l, const uint8_t *bytes, size_t n)
+   on either side, or at any address between that is a multiple of `align`. A buffer of no bytes may
+   be a null pointer. */
+static uint8_t *lend_aligned(struct lent *l, const uint8_t *bytes, size_t n, size_t align)
 {
     uint8_t place = any_byte(), *from;
 
@@ -78,7 +79,7 @@ static uint8_t *lend(struct lent *l, const uint8_t *bytes, size_t n)
         l->bytes = l->room + ROOM - n;
         break;
     default:
-        l->bytes = l->room + EDGE + place % EDGE;
+        l->bytes = l->room + EDGE + place % EDGE / align * align;
     }
     l->n = n;
     if (bytes == NULL)
@@ -90,6 +91,8 @@ static uint8_t *lend(struct lent *l, const uint8_t *bytes, size_t n)
     return n == 0 && place % 3 == 0 ? NULL : l->bytes;
 }
 
+static uint8_t *lend(struct lent *l, const uint8_t *bytes, size_t n) { return lend_aligned(l, bytes, n, 1); }
+
 /* Whether nothing changed but, perhaps, the first `written` bytes. */
 static int kept(const struct lent *l, size_t written)
 {
@@ -98,6 +101,12 @@ static int kept(const struct lent *l, size_t written)
 
     return memcmp(from, l->was, before) == 0 &&
            memcmp(l->bytes + written, l->was + before + written, all - before - written) == 0;
+}
+
+/* Whether these bytes are there, and nothing changed around them. */
+static int left(const struct lent *l, const void *bytes)
+{
+    return kept(l, l->n) && memcmp(l->bytes, bytes, l->n) == 0;
 }
 
 /* Whether the number is the one wanted; where it isn't, prints the record that was lent. */
@@ -226,4 +235,139 @@ void finish_call(uint32_t want, const uint8_t *record, size_t record_len, size_t
           "finish of a record of %zu bytes into %zu, answer %u: wrote outside the digest", record_len, out_len, got);
     if (digest != NULL)
         memcpy(digest, o.bytes, written);
+}
+
+/* ---- Sheets. */
+
+const char *const call_names[4] = {"build", "change", "append", "drop"};
+const size_t final_rounds[5] = {0, 1, 1, 2, 2};
+
+void any_sheet(struct sheet *s, size_t code, size_t n, size_t more)
+{
+    memset(s, 0, sizeof *s);
+    s->code = code;
+    s->n = n;
+    s->place = n / 2;
+    s->sheet_len = RECORD * (n + more);
+    s->marks_len = LUFFA_MARKS_FOR(n + more);
+    s->record_len = RECORD;
+    s->claim_len = digest_bytes[code];
+    s->out_len = digest_bytes[code] + 7;
+    fill(s->sheet, s->sheet_len);
+    fill((uint8_t *)s->marks, 4 * s->marks_len);
+    fill(s->record, sizeof s->record);
+    fill(s->claim, sizeof s->claim);
+}
+
+void built_sheet(struct sheet *s, size_t code, size_t n, size_t more)
+{
+    any_sheet(s, code, n, more);
+    sheet_call(LUFFA_DONE, BUILD, s);
+}
+
+/* Writes the true marks `from` to n / 4 of the sheet: the states of a record that is fed all of it. */
+static void true_marks(const struct sheet *s, size_t from, uint32_t *marks)
+{
+    uint8_t record[LUFFA_RECORD_BYTES];
+
+    luffa_start(s->code, record, sizeof record);
+    for (size_t m = 0; m <= s->n / 4; m++) {
+        for (size_t k = 0; m >= from && k < MARK; k++) {
+            const uint8_t *word = record + STATE + 4 * k;
+            marks[MARK * m + k] = (uint32_t)word[0] << 24 | (uint32_t)word[1] << 16 | (uint32_t)word[2] << 8 | word[3];
+        }
+        if (m < s->n / 4)
+            luffa_feed(record, sizeof record, s->sheet + 4 * RECORD * m, 4 * RECORD);
+    }
+}
+
+/* The rounds from mark m to the end: blocks that are left, and the final stage. */
+static uint64_t rounds_from(const struct sheet *s, size_t m)
+{
+    return RECORD * s->n / 32 + 1 - 5 * m + final_rounds[s->code];
+}
+
+/* What the call must leave of the sheet where it is done, and the answer. */
+static struct luffa_sheet_answer expected(enum call call, struct sheet *s)
+{
+    size_t n = s->n, q = n / 4, from = 0, written = 0;
+    uint64_t check = call == BUILD ? 0 : rounds_from(s, q);
+
+    switch (call) {
+    case BUILD:
+        break;
+    case CHANGE:
+        memcpy(s->sheet + RECORD * s->place, s->record, RECORD);
+        from = s->place / 4;
+        written = from + 1;
+        break;
+    case APPEND:
+        memcpy(s->sheet + RECORD * n, s->record, RECORD);
+        s->n = n + 1;
+        from = q;
+        written = q + 1;
+        break;
+    case DROP:
+        memset(s->sheet + RECORD * (n - 1), 0, RECORD);
+        if (n % 4 == 0)
+            memset(s->marks + MARK * q, 0, 4 * MARK);
+        s->n = n - 1;
+        from = s->n / 4;
+        written = from + 1;
+        break;
+    }
+    true_marks(s, written, s->marks);
+    luffa_digest(s->code, s->sheet, RECORD * s->n, s->out, digest_bytes[s->code]);
+    return (struct luffa_sheet_answer){LUFFA_DONE, s->n, check + rounds_from(s, from)};
+}
+
+struct luffa_sheet_answer sheet_call(uint64_t want, enum call call, struct sheet *s)
+{
+    static struct lent in_sheet, in_marks, in_record, in_claim, in_out;
+    uint8_t *sheet = lend(&in_sheet, s->sheet, s->sheet_len), *record = lend(&in_record, s->record, s->record_len);
+    uint8_t *claim = lend(&in_claim, s->claim, s->claim_len), *out = lend(&in_out, NULL, s->out_len);
+    uint32_t *marks = (void *)lend_aligned(&in_marks, (uint8_t *)s->marks, 4 * s->marks_len, 4);
+    struct luffa_sheet_answer got = {0, 0, 0}, wanted = {want, s->n, 0};
+    size_t n = s->n;
+
+    switch (call) {
+    case BUILD:
+        got = luffa_sheet_build(s->code, sheet, s->sheet_len, n, marks, s->marks_len, out, s->out_len);
+        break;
+    case CHANGE:
+        got = luffa_sheet_change(s->code, sheet, s->sheet_len, n, marks, s->marks_len, s->place, record, s->record_len,
+                                 claim, s->claim_len, out, s->out_len);
+        break;
+    case APPEND:
+        got = luffa_sheet_append(s->code, sheet, s->sheet_len, n, marks, s->marks_len, record, s->record_len, claim,
+                                 s->claim_len, out, s->out_len);
+        break;
+    case DROP:
+        got = luffa_sheet_drop(s->code, sheet, s->sheet_len, n, marks, s->marks_len, claim, s->claim_len, out,
+                               s->out_len);
+        break;
+    }
+    if (want == LUFFA_STALE)
+        wanted.rounds = n % 4 + 1 + final_rounds[s->code];
+    if (want == LUFFA_DONE)
+        wanted = expected(call, s);
+    check(got.number == wanted.number && got.count == wanted.count && got.rounds == wanted.rounds,
+          "%s of %zu records at code %zu, place %zu: answered %llu, %llu, %llu, wanted %llu, %llu, %llu",
+          call_names[call], n, s->code, s->place, (unsigned long long)got.number, (unsigned long long)got.count,
+          (unsigned long long)got.rounds, (unsigned long long)wanted.number, (unsigned long long)wanted.count,
+          (unsigned long long)wanted.rounds);
+    check(left(&in_sheet, s->sheet) && kept(&in_record, 0) && kept(&in_claim, 0),
+          "%s of %zu records at code %zu, place %zu, answer %u: wrong sheet", call_names[call], n, s->code, s->place,
+          (unsigned)got.number);
+    check(left(&in_marks, s->marks), "%s of %zu records at code %zu, place %zu, answer %u: wrong marks",
+          call_names[call], n, s->code, s->place, (unsigned)got.number);
+    check(kept(&in_out, want == LUFFA_DONE ? digest_bytes[s->code] : 0),
+          "%s of %zu records at code %zu, answer %u: wrote outside the digest", call_names[call], n, s->code,
+          (unsigned)got.number);
+    if (want == LUFFA_DONE) {
+        check(memcmp(in_out.bytes, s->out, digest_bytes[s->code]) == 0,
+              "%s of %zu records at code %zu, place %zu: wrong digest", call_names[call], n, s->code, s->place);
+        memcpy(s->claim, in_out.bytes, digest_bytes[s->code]);
+    }
+    return got;
 }

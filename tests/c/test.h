@@ -43,4 +43,36 @@ void feed_call(uint32_t want, uint8_t *record, size_t record_len, const uint8_t 
 /* Where done, `digest` gets the digest; it may be null. */
 void finish_call(uint32_t want, const uint8_t *record, size_t record_len, size_t out_len, uint8_t *digest);
 
+/* ---- Sheets. */
+
+enum call { BUILD, CHANGE, APPEND, DROP };
+extern const char *const call_names[4];
+
+enum { RECORD = LUFFA_SHEET_RECORD_BYTES, MARK = LUFFA_MARK_WORDS, MOST = LUFFA_SHEET_MOST, ROOM_FOR = MOST + 6 };
+
+/* A sheet, and all that a call on it is given. */
+struct sheet {
+    size_t code, n, place;
+    size_t sheet_len, marks_len, record_len, claim_len, out_len;
+    uint8_t sheet[RECORD * ROOM_FOR];
+    uint32_t marks[LUFFA_MARKS_FOR(ROOM_FOR)];
+    uint8_t record[100], claim[100], out[200];
+};
+
+/* n records of any bytes, with room for `more`, and no byte or word beyond that is lent. The marks
+   are any words; the record is any, and the output buffer has a few bytes too many. */
+void any_sheet(struct sheet *s, size_t code, size_t n, size_t more);
+
+/* The same, built, and the digest claimed. */
+void built_sheet(struct sheet *s, size_t code, size_t n, size_t more);
+
+/* F, the rounds of the final stage. */
+extern const size_t final_rounds[5];
+
+/* Makes a call on a sheet whose marks are true. Where done, everything is judged by luffa_digest and
+   luffa_feed over the whole sheet, and by document 01's formulas for rounds; refused, nothing may
+   have changed. Then `s` is what the call left, with the new count, and the claim is the new
+   digest. */
+struct luffa_sheet_answer sheet_call(uint64_t want, enum call call, struct sheet *s);
+
 #endif

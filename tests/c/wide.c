@@ -15,13 +15,65 @@ static int holds(const uint8_t *mapped, const uint8_t *bytes, size_t n)
            memcmp(mapped + WIDE, zero, sizeof zero) == 0;
 }
 
+/* A sheet of five records in wide buffers, and with each length in turn made wide that must not be. */
+static void sheets(uint8_t *sheet, uint32_t *marks, uint8_t *out, size_t code)
+{
+    static struct sheet s;
+    size_t d = digest_bytes[code], n = 5;
+    uint8_t held[LUFFA_512_BYTES], *wide = out; /* a wide record or claim */
+
+    built_sheet(&s, code, n, 0);
+    memcpy(sheet, s.sheet, RECORD * n);
+    check(luffa_sheet_build(code, sheet, WIDE, n, marks, WIDE, out, WIDE).number == LUFFA_DONE &&
+              memcmp(marks, s.marks, 4 * s.marks_len) == 0 && marks[s.marks_len] == 0 && marks[WIDE] == 0 &&
+              holds(sheet, s.sheet, RECORD * n) && holds(out, s.claim, d),
+          "build in wide buffers at code %zu", code);
+    memset(out, 0, d);
+    check(luffa_sheet_build(code, sheet, WIDE, WIDE + n, marks, WIDE, out, WIDE).number == LUFFA_SHEET &&
+              luffa_sheet_build(code, sheet, WIDE, WIDE, marks, WIDE, out, WIDE).number == LUFFA_SHEET,
+          "build of a wide number of records at code %zu", code);
+    check(luffa_sheet_change(code, sheet, WIDE, n, marks, WIDE, WIDE, s.record, RECORD, s.claim, d, out, WIDE).number ==
+              LUFFA_PLACE,
+          "change at a wide place at code %zu", code);
+    check(luffa_sheet_change(code, sheet, WIDE, n, marks, WIDE, 0, wide, WIDE + RECORD, s.claim, d, s.out, d).number ==
+                  LUFFA_SIZE &&
+              luffa_sheet_append(code, sheet, WIDE, n, marks, WIDE, wide, WIDE + RECORD, s.claim, d, s.out, d).number ==
+                  LUFFA_SIZE,
+          "a wide record at code %zu", code);
+    check(luffa_sheet_change(code, sheet, WIDE, n, marks, WIDE, 0, s.record, RECORD, wide, WIDE + d, s.out, d).number ==
+                  LUFFA_CLAIM &&
+              luffa_sheet_append(code, sheet, WIDE, n, marks, WIDE, s.record, RECORD, wide, WIDE + d, s.out, d)
+                      .number == LUFFA_CLAIM &&
+              luffa_sheet_drop(code, sheet, WIDE, n, marks, WIDE, wide, WIDE + d, s.out, d).number == LUFFA_CLAIM,
+          "a wide claim at code %zu", code);
+    check(holds(sheet, s.sheet, RECORD * n) && holds(out, s.sheet, 0), "refused at code %zu, and something written",
+          code);
+
+    check(luffa_sheet_append(code, sheet, WIDE, n, marks, WIDE, s.record, RECORD, s.claim, d, out, WIDE).count == n + 1,
+          "append in wide buffers at code %zu", code);
+    memcpy(held, out, d);
+    check(luffa_sheet_drop(code, sheet, WIDE, n + 1, marks, WIDE, held, d, out, WIDE).count == n &&
+              holds(sheet, s.sheet, RECORD * n) && holds(out, s.claim, d),
+          "drop in wide buffers at code %zu", code);
+    memset(sheet, 0, RECORD * n);
+    memset(marks, 0, 4 * s.marks_len);
+    memset(out, 0, d);
+}
+
+static uint8_t *map(size_t bytes)
+{
+    void *mapped = mmap(NULL, bytes, PROT_READ | PROT_WRITE, MAP_PRIVATE | MAP_ANONYMOUS | MAP_NORESERVE, -1, 0);
+
+    check(mapped != MAP_FAILED, "no address space for %zu bytes", bytes);
+    return mapped;
+}
+
 int main(void)
 {
     uint8_t record[LUFFA_RECORD_BYTES], digest[LUFFA_512_BYTES];
-    uint8_t *mapped = mmap(NULL, WIDE + 65536, PROT_READ | PROT_WRITE, MAP_PRIVATE | MAP_ANONYMOUS | MAP_NORESERVE,
-                           -1, 0);
+    uint8_t *mapped = map(WIDE + 65536), *out = map(WIDE + 65536);
+    uint32_t *marks = (void *)map(4 * WIDE + 65536);
 
-    check(mapped != MAP_FAILED, "no address space for 4 GiB");
     for (size_t code = 1; code <= 4; code++) {
         /* A record buffer of 2^32 + 208 bytes isn't one of 208. */
         any_record(record, code, 40);
@@ -57,6 +109,8 @@ int main(void)
                           memcmp(record, copy, sizeof copy) == 0,
                       "feed of a wide piece at code %zu with room for %zu bytes", code, left);
         }
+
+        sheets(mapped, marks, out, code);
     }
     return 0;
 }

@@ -1,0 +1,202 @@
+/* The refusals of the sheet calls: each by itself in every way, and every set of them at once, of
+   which the lowest is given. What is refused changes nothing; sheet_call sees to that. */
+#include "test.h"
+
+#define COUNT_OF(array) (sizeof(array) / sizeof *(array))
+
+/* The sheet as built, and the one that is spoilt. A refused call leaves the sheet and the marks, so
+   that only the rest is put right again. */
+static struct sheet built, s;
+
+static void put_right(void)
+{
+    memcpy(&s, &built, offsetof(struct sheet, sheet));
+    memcpy(s.claim, built.claim, sizeof s.claim);
+}
+
+static const size_t unknown[] = {0, 5, 256 + 2, ((size_t)1 << 32) + 4, (size_t)1 << 63, SIZE_MAX};
+
+/* Among them such as are few once they are cut to 32 bits, and such as need few bytes or words once
+   the product is cut to 64. */
+static const size_t too_many[] = {
+    MOST + 1,          MOST + 4,          (size_t)1 << 32,   ((size_t)1 << 32) + 5, (size_t)1 << 62, (size_t)1 << 63,
+    SIZE_MAX / 40 + 1, SIZE_MAX / 40 + 2, SIZE_MAX / 10 + 1, SIZE_MAX - 1023,       SIZE_MAX - 3,    SIZE_MAX,
+};
+
+/* Places after the last record, from n on; among them such as are before it once they are cut. */
+static const size_t beyond[] = {
+    0, 1, 3, ((size_t)1 << 32) - 1, SIZE_MAX / 40, SIZE_MAX / 40 + 1, (size_t)1 << 63, SIZE_MAX - MOST,
+};
+
+static const size_t no_record[] = {0, 1, 39, 41, 80};
+static const size_t no_claim[] = {0, 1, 28, 32, 48, 64, 65};
+
+/* In how many ways the built sheet can be refused this. */
+static size_t ways(enum call call, uint64_t number)
+{
+    switch (number) {
+    case LUFFA_WIDTH:
+        return COUNT_OF(unknown);
+    case LUFFA_OUT:
+    case LUFFA_STALE:
+        return digest_bytes[built.code];
+    case LUFFA_SHEET:
+        return COUNT_OF(too_many) + (built.n > 0 ? 3 : 1);
+    case LUFFA_MARKS:
+        return 3;
+    case LUFFA_PLACE:
+        return call == CHANGE ? COUNT_OF(beyond) : 0;
+    case LUFFA_FULL:
+        return built.n % 4 == 3 ? 4 : 2;
+    case LUFFA_SIZE:
+        return COUNT_OF(no_record);
+    default:
+        return COUNT_OF(no_claim);
+    }
+}
+
+static void spoil(uint64_t number, size_t way)
+{
+    size_t n = built.n, d = digest_bytes[built.code];
+
+    switch (number) {
+    case LUFFA_WIDTH:
+        s.code = unknown[way];
+        break;
+    case LUFFA_OUT:
+        s.out_len = way;
+        break;
+    case LUFFA_SHEET:
+        if (way < COUNT_OF(too_many)) {
+            s.n = too_many[way];
+        } else if (way == COUNT_OF(too_many)) {
+            /* Too many, though there is room for them. */
+            s.n = MOST + 1;
+            s.sheet_len = sizeof s.sheet;
+            s.marks_len = COUNT_OF(s.marks);
+        } else {
+            s.sheet_len = way == COUNT_OF(too_many) + 1 ? RECORD * n - 1 : 0;
+        }
+        break;
+    case LUFFA_MARKS:
+        s.marks_len = way == 0 ? LUFFA_MARKS_FOR(n) - 1 : way == 1 ? MARK * (n / 4) : 0;
+        break;
+    case LUFFA_PLACE:
+        s.place = n + beyond[way];
+        break;
+    case LUFFA_FULL:
+        if (way < 2)
+            s.sheet_len = RECORD * n + (way == 0 ? 0 : RECORD - 1);
+        else
+            s.marks_len = way == 2 ? LUFFA_MARKS_FOR(n) : LUFFA_MARKS_FOR(n + 1) - 1;
+        break;
+    case LUFFA_SIZE:
+        s.record_len = no_record[way];
+        break;
+    case LUFFA_CLAIM:
+        s.claim_len = no_claim[way] != d ? no_claim[way] : d - 1;
+        break;
+    default:
+        s.claim[way] ^= 0x10;
+    }
+}
+
+/* Sets of refusals, as bits: those that a call has. */
+static const unsigned has[4] = {
+    [BUILD] = 1 << 1 | 1 << 2 | 1 << 5 | 1 << 6,
+    [CHANGE] = 1 << 1 | 1 << 2 | 1 << 5 | 1 << 6 | 1 << 7 | 1 << 9 | 1 << 10 | 1 << 11,
+    [APPEND] = 1 << 1 | 1 << 2 | 1 << 5 | 1 << 6 | 1 << 8 | 1 << 9 | 1 << 10 | 1 << 11,
+    [DROP] = 1 << 1 | 1 << 2 | 1 << 5 | 1 << 6 | 1 << 7 | 1 << 10 | 1 << 11,
+};
+
+/* What this n is refused whatever else is given: a change or a drop of nothing, an append to a full
+   sheet. */
+static unsigned always(enum call call)
+{
+    if ((call == CHANGE || call == DROP) && built.n == 0)
+        return 1 << LUFFA_PLACE;
+    return call == APPEND && built.n == MOST ? 1 << LUFFA_FULL : 0;
+}
+
+static void refused(enum call call, unsigned set)
+{
+    uint64_t number = 1;
+
+    set |= always(call);
+    while (!(set >> number & 1))
+        number++;
+    sheet_call(number, call, &s);
+}
+
+static void alone(enum call call)
+{
+    for (uint64_t number = 1; number <= 11; number++)
+        for (size_t way = 0; has[call] >> number & 1 && way < ways(call, number); way++) {
+            put_right();
+            spoil(number, way);
+            refused(call, 1u << number);
+        }
+}
+
+/* Every set of refusals, each of them in one of its ways in turn. The higher ones go first: a lower
+   one may give another n or another length, and only the lowest has to hold in the end. */
+static void together(enum call call)
+{
+    static size_t turn;
+
+    for (unsigned set = 1; set < 1u << 12; set++) {
+        if ((set & ~has[call]) != 0 || (set >> 7 & 1 && ways(call, 7) == 0))
+            continue;
+        put_right();
+        for (uint64_t number = 11; number >= 1; number--)
+            if (set >> number & 1)
+                spoil(number, turn++ % ways(call, number));
+        refused(call, set);
+    }
+}
+
+/* Buffers of no bytes may be null pointers. */
+static void null_pointers(size_t code)
+{
+    uint32_t marks[MARK];
+    uint8_t record[RECORD] = {0}, digest[LUFFA_512_BYTES], out[LUFFA_512_BYTES];
+    size_t d = digest_bytes[code];
+
+    check(luffa_sheet_build(code, NULL, 0, 0, marks, MARK, digest, d).number == LUFFA_DONE, "no sheet");
+    check(luffa_sheet_build(code, NULL, 0, 0, marks, MARK, NULL, 0).number == LUFFA_OUT, "no output buffer");
+    check(luffa_sheet_build(code, NULL, 0, 1, marks, MARK, out, d).number == LUFFA_SHEET, "no sheet of one record");
+    check(luffa_sheet_build(code, NULL, 0, 0, NULL, 0, out, d).number == LUFFA_MARKS, "no marks");
+    check(luffa_sheet_drop(code, NULL, 0, 0, marks, MARK, NULL, 0, out, d).number == LUFFA_PLACE, "drop of nothing");
+    check(luffa_sheet_append(code, NULL, 0, 0, marks, MARK, record, RECORD, digest, d, out, d).number == LUFFA_FULL,
+          "append to no sheet");
+    check(luffa_sheet_append(code, record, RECORD, 0, marks, MARK, NULL, 0, digest, d, out, d).number == LUFFA_SIZE,
+          "no record");
+    check(luffa_sheet_append(code, out, RECORD, 0, marks, MARK, record, RECORD, NULL, 0, digest, d).number ==
+              LUFFA_CLAIM,
+          "no claim");
+    check(luffa_sheet_change(0, NULL, 0, 0, NULL, 0, 0, NULL, 0, NULL, 0, NULL, 0).number == LUFFA_WIDTH, "nothing");
+}
+
+int main(void)
+{
+    static const size_t counts[] = {0, 1, 3, 4, 5, 11, MOST - 1, MOST};
+
+    for (size_t code = 1; code <= 4; code++) {
+        for (size_t i = 0; i < COUNT_OF(counts); i++) {
+            built_sheet(&built, code, counts[i], 1);
+            s = built;
+            for (int call = BUILD; call <= DROP; call++) {
+                alone((enum call)call);
+                /* Sheets of over a thousand records take longer, and would show no other set. */
+                if (counts[i] < 1000 || code == 4)
+                    together((enum call)call);
+            }
+            /* And nothing was wrong with the sheet. */
+            put_right();
+            sheet_call(counts[i] < MOST ? LUFFA_DONE : LUFFA_FULL, APPEND, &s);
+            sheet_call(LUFFA_DONE, DROP, &s);
+        }
+        null_pointers(code);
+    }
+    return 0;
+}
