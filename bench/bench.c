@@ -1,5 +1,6 @@
-/* Cycles per byte of the archive and of portable.c over the same messages in one run, of feeding against the one-call digest, and the
-   stack of each call, with the bars. It measures nothing before all have given the same digests; --check leaves out the clock. */
+/* Cycles per byte of the archive and of portable.c over the same messages in one run, of feeding against the one-call digest, of the sheet
+   calls against hashing the whole sheet, and the stack of each call, with the bars. It measures nothing before all have given the same
+   digests; --check leaves out the clock. */
 #include "luffa.h"
 #include "portable.h"
 
@@ -13,14 +14,27 @@
 #define COUNT(array) (sizeof(array) / sizeof(array)[0])
 
 enum { CODES = 4, MOST_DIGEST_BYTES = 64, LONGEST = 1 << 20, PIECE = 1 << 16, FILL = 0xa5 };
+enum { SHEET_RECORD = LUFFA_SHEET_RECORD_BYTES, SHEET_MOST = LUFFA_SHEET_MOST, MARKS_MOST = LUFFA_MARKS_FOR(SHEET_MOST) };
 
-/* What a measured thing is given: a code, a message, room for the digest and a record. */
+static const size_t DIGEST_BYTES[CODES + 1] = {0, LUFFA_224_BYTES, LUFFA_256_BYTES, LUFFA_384_BYTES, LUFFA_512_BYTES};
+
+/* What a measured thing is given: a code, a message, room for the digest and a record; for a sheet call, the sheet whose records are the
+   message. */
 struct job {
     size_t code;
     const uint8_t *message;
     size_t len;
     uint8_t out[MOST_DIGEST_BYTES];
     uint8_t record[LUFFA_RECORD_BYTES];
+    struct sheet *sheet;
+};
+
+/* n records and their marks, the last mark once more, and the digests of all records and of all but the last. */
+struct sheet {
+    size_t n;
+    uint8_t records[SHEET_RECORD * SHEET_MOST];
+    uint32_t marks[MARKS_MOST], last_mark[LUFFA_MARK_WORDS];
+    uint8_t digest[MOST_DIGEST_BYTES], without_last[MOST_DIGEST_BYTES];
 };
 
 /* A job with its room filled and its record started. */
@@ -76,6 +90,75 @@ static uint32_t archive_empty_pieces(struct job *job)
     for (size_t i = 0; i < job->len; i++)
         answer |= luffa_feed(job->record, sizeof job->record, job->message, 0);
     return answer;
+}
+
+/* -- Sheet calls. Each leaves the sheet as it was, so that all can take turns on one and each is the same work again. -- */
+
+static uint32_t archive_build(struct job *job)
+{
+    struct sheet *s = job->sheet;
+    return (uint32_t)luffa_sheet_build(job->code, s->records, sizeof s->records, s->n, s->marks, MARKS_MOST, job->out, sizeof job->out).number;
+}
+
+/* A record equal to the old one is saved like any other. */
+static inline uint32_t change_at(struct job *job, size_t place)
+{
+    struct sheet *s = job->sheet;
+    return (uint32_t)luffa_sheet_change(job->code, s->records, sizeof s->records, s->n, s->marks, MARKS_MOST, place,
+                                        job->message + SHEET_RECORD * place, SHEET_RECORD, s->digest, DIGEST_BYTES[job->code], job->out,
+                                        sizeof job->out)
+        .number;
+}
+
+static uint32_t archive_change_last(struct job *job) { return change_at(job, job->sheet->n - 1); }
+static uint32_t archive_change_middle(struct job *job) { return change_at(job, job->sheet->n / 2); }
+static uint32_t archive_change_first(struct job *job) { return change_at(job, 0); }
+
+/* The last record onto those before it. */
+static uint32_t archive_append(struct job *job)
+{
+    struct sheet *s = job->sheet;
+    size_t last = s->n - 1;
+    return (uint32_t)luffa_sheet_append(job->code, s->records, sizeof s->records, last, s->marks, MARKS_MOST,
+                                        job->message + SHEET_RECORD * last, SHEET_RECORD, s->without_last, DIGEST_BYTES[job->code], job->out,
+                                        sizeof job->out)
+        .number;
+}
+
+/* The last record dropped; it and the last mark, which a drop may zero, are then put back. These 200 bytes are in the figure. */
+static uint32_t archive_drop(struct job *job)
+{
+    struct sheet *s = job->sheet;
+    size_t last = s->n - 1;
+    uint32_t answer = (uint32_t)luffa_sheet_drop(job->code, s->records, sizeof s->records, s->n, s->marks, MARKS_MOST, s->digest,
+                                                 DIGEST_BYTES[job->code], job->out, sizeof job->out)
+                          .number;
+    memcpy(s->marks + LUFFA_MARK_WORDS * (s->n / 4), s->last_mark, sizeof s->last_mark);
+    memcpy(s->records + SHEET_RECORD * last, job->message + SHEET_RECORD * last, SHEET_RECORD);
+    return answer;
+}
+
+/* A job on a sheet of n records, with true marks. */
+static struct job sheet_job(size_t code, const uint8_t *message, size_t n)
+{
+    static struct sheet sheet;
+    struct job job = job_of(code, message, SHEET_RECORD * n);
+
+    job.sheet = &sheet;
+    sheet.n = n;
+    memcpy(sheet.records, message, SHEET_RECORD * n);
+    archive_digest(&job);
+    memcpy(sheet.digest, job.out, sizeof sheet.digest);
+    if (n > 0) {
+        job.len -= SHEET_RECORD;
+        archive_digest(&job);
+        job.len += SHEET_RECORD;
+    }
+    memcpy(sheet.without_last, job.out, sizeof sheet.without_last);
+    archive_build(&job);
+    memcpy(sheet.last_mark, sheet.marks + LUFFA_MARK_WORDS * (n / 4), sizeof sheet.last_mark);
+    memset(job.out, FILL, sizeof job.out);
+    return job;
 }
 
 /* -- The same digests -- */
@@ -157,6 +240,71 @@ static int check(const uint8_t *message)
                     return 0;
         }
     printf("the same digests: %zu, of 0 to %d bytes, at codes 1 to %d, in one call and fed\n", compared, LONGEST, CODES);
+    return 1;
+}
+
+/* A sheet call against portable C over the records that it leaves. */
+static int same_sheet(const char *call, struct luffa_sheet_answer answer, size_t n, struct job *job)
+{
+    struct job portable = job_of(job->code, job->sheet->records, SHEET_RECORD * n);
+
+    portable_c_digest(&portable);
+    memcpy(job->sheet->digest, job->out, sizeof job->sheet->digest);
+    if (answer.number == LUFFA_DONE && answer.count == n && memcmp(job->out, portable.out, sizeof job->out) == 0)
+        return 1;
+
+    printf("DIFFERENT: code %zu, %s to %zu records\n", job->code, call, n);
+    print_out("archive", (uint32_t)answer.number, job);
+    print_out("portable C", 0, &portable);
+    return 0;
+}
+
+/* A sheet that is built, changed at both ends and between, appended to and dropped from; each save claims the digest before it. */
+static int saved(size_t code, const uint8_t *message, size_t n)
+{
+    struct job job = sheet_job(code, message, n);
+    struct sheet *s = job.sheet;
+    const uint8_t *record = message + SHEET_RECORD * SHEET_MOST;
+    const size_t places[] = {n - 1, n / 2, 0};
+    struct luffa_sheet_answer answer =
+        luffa_sheet_build(code, s->records, sizeof s->records, n, s->marks, MARKS_MOST, job.out, sizeof job.out);
+
+    if (!same_sheet("build", answer, n, &job))
+        return 0;
+    for (size_t i = 0; n > 0 && i < COUNT(places); i++, record += SHEET_RECORD) {
+        answer = luffa_sheet_change(code, s->records, sizeof s->records, n, s->marks, MARKS_MOST, places[i], record, SHEET_RECORD, s->digest,
+                                    DIGEST_BYTES[code], job.out, sizeof job.out);
+        if (!same_sheet("change", answer, n, &job))
+            return 0;
+    }
+    if (n < SHEET_MOST) {
+        answer = luffa_sheet_append(code, s->records, sizeof s->records, n, s->marks, MARKS_MOST, record, SHEET_RECORD, s->digest,
+                                    DIGEST_BYTES[code], job.out, sizeof job.out);
+        if (!same_sheet("append", answer, ++n, &job))
+            return 0;
+    }
+    for (; n > 0 && n % 8 != 7; n--) {
+        answer = luffa_sheet_drop(code, s->records, sizeof s->records, n, s->marks, MARKS_MOST, s->digest, DIGEST_BYTES[code], job.out,
+                                  sizeof job.out);
+        if (!same_sheet("drop", answer, n - 1, &job))
+            return 0;
+    }
+    return 1;
+}
+
+static int check_sheets(const uint8_t *message)
+{
+    static const size_t LARGER[] = {100, 1021, 1022, 1023, SHEET_MOST};
+
+    for (size_t code = 1; code <= CODES; code++) {
+        for (size_t n = 0; n <= 20; n++)
+            if (!saved(code, message, n))
+                return 0;
+        for (size_t i = 0; i < COUNT(LARGER); i++)
+            if (!saved(code, message, LARGER[i]))
+                return 0;
+    }
+    printf("the same digests after sheet calls, of 0 to %d records\n", SHEET_MOST);
     return 1;
 }
 
@@ -258,6 +406,40 @@ static void short_pieces(const uint8_t *message)
     }
 }
 
+/* The calls on a full sheet, against the digest of its bytes. */
+static void sheets(const uint8_t *message)
+{
+    static const struct length LENGTH = {SHEET_RECORD * SHEET_MOST, 1, 1000};
+    static const double BAR_BUILD = 1.10, BAR_LAST = 1.0 / 80;
+    enum { DIGEST, BUILD, LAST, MIDDLE, FIRST, APPEND, DROP };
+    static work *const RUNS[] = {archive_digest,       archive_build,  archive_change_last, archive_change_middle,
+                                 archive_change_first, archive_append, archive_drop};
+    static const char *const NAME[] = {"digest", "build", "change at 1,023", "change at 512", "change at 0", "append at 1,023", "drop at 1,024"};
+
+    printf("\nSheet of 1,024 records, cycles per call and their ratio to the digest of its bytes, best timing of each, taken in turns\n\n");
+    printf("code   call                cycles     ratio\n");
+    for (size_t code = 1; code <= CODES; code++) {
+        struct job job = sheet_job(code, message, SHEET_MOST);
+        double best[COUNT(RUNS)];
+        for (size_t k = 0; k < COUNT(RUNS); k++)
+            if (RUNS[k](&job) != LUFFA_DONE) {
+                printf("REFUSED: code %zu, %s\n", code, NAME[k]);
+                exit(1);
+            }
+        race(RUNS, COUNT(RUNS), &job, &LENGTH, best);
+        for (size_t k = 0; k < COUNT(RUNS); k++) {
+            double ratio = best[k] / best[DIGEST];
+            printf("%4zu   %-15s %10.0f %9.4f", code, NAME[k], best[k] * (double)job.len, ratio);
+            if (k == BUILD)
+                printf("   at most %.2f: %s", BAR_BUILD, verdict(ratio, BAR_BUILD));
+            if (k == LAST && code == LUFFA_512)
+                printf("   at most 1/80: %s", verdict(ratio, BAR_LAST));
+            printf("\n");
+        }
+        fflush(stdout);
+    }
+}
+
 /* -- The stack -- */
 
 enum { STACK_BYTES = 1 << 16, STACK_BAR = 4096 };
@@ -315,8 +497,17 @@ static size_t most_touched(work *run, const struct job *job)
     return a > b ? a : b;
 }
 
-/* The most stack of each call, from its return address down, over codes, lengths and bytes held in the record. A call that does nothing
-   shows what is not the call's own; it has a return address too. */
+/* The stack of a call from its return address down. A call that does nothing shows what is not the call's own; it has a return address
+   too. */
+static size_t own_stack(work *run, const struct job *job) { return most_touched(run, job) - most_touched(nothing, job) + sizeof(void *); }
+
+static int stack_line(const char *name, size_t most)
+{
+    printf("%-18s %6zu   at most %d: %s\n", name, most, STACK_BAR, verdict((double)most, STACK_BAR));
+    return most <= STACK_BAR;
+}
+
+/* The most stack of each call over codes, lengths and bytes held in the record; of the sheet calls, over codes and numbers of records. */
 static int stacks(const uint8_t *message)
 {
     static const struct {
@@ -327,12 +518,18 @@ static int stacks(const uint8_t *message)
         {"luffa_start", archive_start},
         {"luffa_feed", archive_feed},
         {"luffa_finish", archive_finish},
+    }, SHEET_CALLS[] = {
+        {"luffa_sheet_build", archive_build},
+        {"luffa_sheet_change", archive_change_middle},
+        {"luffa_sheet_append", archive_append},
+        {"luffa_sheet_drop", archive_drop},
     };
     static const size_t LENGTHS[] = {0, 1, 31, 32, 33, 63, 64, 65, 200, 4096, 65537}, HELD[] = {0, 1, 16, 31, 32};
+    static const size_t RECORDS[] = {1, 2, 3, 4, 5, 9, 1023, SHEET_MOST};
     int ok = 1;
 
-    printf("\nStack, bytes: the most that a call has written to, over codes 1 to %d, %zu lengths and %zu records\n\n", CODES, COUNT(LENGTHS),
-           COUNT(HELD));
+    printf("\nStack, bytes: the most that a call has written to, over codes 1 to %d, %zu lengths and %zu records, or %zu sheets\n\n", CODES,
+           COUNT(LENGTHS), COUNT(HELD), COUNT(RECORDS));
     for (size_t i = 0; i < COUNT(CALLS); i++) {
         size_t most = 0;
         for (size_t code = 1; code <= CODES; code++)
@@ -341,11 +538,20 @@ static int stacks(const uint8_t *message)
                     struct job job = job_of(code, message, HELD[k]);
                     archive_feed(&job);
                     job.len = LENGTHS[n];
-                    size_t own = most_touched(CALLS[i].run, &job) - most_touched(nothing, &job) + sizeof(void *);
+                    size_t own = own_stack(CALLS[i].run, &job);
                     most = own > most ? own : most;
                 }
-        printf("%-12s %6zu   at most %d: %s\n", CALLS[i].name, most, STACK_BAR, verdict((double)most, STACK_BAR));
-        ok = ok && most <= STACK_BAR;
+        ok &= stack_line(CALLS[i].name, most);
+    }
+    for (size_t i = 0; i < COUNT(SHEET_CALLS); i++) {
+        size_t most = 0;
+        for (size_t code = 1; code <= CODES; code++)
+            for (size_t n = 0; n < COUNT(RECORDS); n++) {
+                struct job job = sheet_job(code, message, RECORDS[n]);
+                size_t own = own_stack(SHEET_CALLS[i].run, &job);
+                most = own > most ? own : most;
+            }
+        ok &= stack_line(SHEET_CALLS[i].name, most);
     }
     return ok;
 }
@@ -366,12 +572,13 @@ int main(int argc, char **argv)
         message[i] = (uint8_t)(x >> 24);
     }
 
-    if (!check(message))
+    if (!check(message) || !check_sheets(message))
         return 1;
     if (!only_check) {
         digests(message);
         feeding(message);
         short_pieces(message);
+        sheets(message);
     }
     return stacks(message) ? 0 : 1;
 }

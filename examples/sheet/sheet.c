@@ -43,8 +43,10 @@ int main(void)
 {
     uint8_t anna[LUFFA_256_BYTES], ben[LUFFA_256_BYTES];
 
-    for (n = 0; n < 100; n++)
-        snprintf((char *)sheet + LUFFA_SHEET_RECORD_BYTES * n, LUFFA_SHEET_RECORD_BYTES, "injector %u: 40 kg", (unsigned)n);
+    for (n = 0; n < 100; n++) {
+        char *record = (char *)sheet + LUFFA_SHEET_RECORD_BYTES * n;
+        snprintf(record, LUFFA_SHEET_RECORD_BYTES, "injector %u: 40 kg", (unsigned)n);
+    }
 
     open_sheet("Anna opens", anna);
     open_sheet("Ben opens", ben);

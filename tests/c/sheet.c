@@ -216,7 +216,7 @@ int main(void)
     examples();
     for (size_t code = 1; code <= 4; code++) {
         for (size_t n = 0; n <= 14; n++)
-            for (size_t more = 0; more <= 4; more++)
+            for (size_t more = 0; more <= 4; more += 2)
                 each_call(code, n, more);
         for (size_t i = 0; i < sizeof large / sizeof *large; i++)
             each_call(code, large[i], i % 2);
