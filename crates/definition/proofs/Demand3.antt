@@ -14,7 +14,7 @@ use Rattle.definition.specs.Buffer.{overwriteAt, overwrite}
 use Rattle.definition.specs.Refusal.{STALE, firstOf}
 use Rattle.definition.specs.Sheet.{q, checkRounds}
 use Rattle.definition.specs.Marks.{held, markAt, TrueMarks}
-use Rattle.definition.specs.SheetCalls.{refusedWith, acceptedWith, buildOutcome}
+use Rattle.definition.specs.SheetCalls.{SheetOutcome, refusedWith, acceptedWith, buildOutcome}
 use Rattle.definition.specs.Run.{World, Call, call, claimOf, outOf, placeOf, countOf, refusalsOf, roundsOf, left, next, run, applied, records, cut}
 use Rattle.definition.specs.Run.Call.{Change, Append, Drop}
 use Rattle.definition.proofs.Demand2.{joined}
@@ -23,7 +23,7 @@ use Rattle.definition.proofs.Writes.{take-overwriteAt, drop-overwriteAt
 use Rattle.definition.proofs.Outcomes.{Untouched, Rounds, Fits}
 use Rattle.definition.proofs.Saves.{recordOf, sheetOf, acceptedOf, Valid, by-answer, Written, Made, save-made, Kept, save-kept, save-marks}
 use Rattle.definition.proofs.Build.{build-fits, build-made, BuildKept, build-kept}
-use Rattle.definition.proofs.Answers.{save-rounds, save-given, save-refused, save-accepted, save-stale}
+use Rattle.definition.proofs.Answers.{save-rounds, save-given, save-refused, save-accepted, save-stale, accepted-is, Restored, change-back}
 use Rattle.definition.proofs.Joined.{Forty, forty-set, forty-append, forty-take, joined-append, joined-take, joined-set, take-overwritten, take-added, length-cut, forty-cut, joined-cut}
 
 -- a world stands for a list of records
@@ -193,3 +193,24 @@ two-saves w rs s c d e a v f =
     let o : After (next w c) d (applied 0 rs c) = after (next w c) d (applied 0 rs c) s' in
     let t : call (next w c) d .answer .number ≡ STALE = o .stale .1 (v, λ g. f (sym (after w c rs s .accepted .0 a .1) ∙ sym e ∙ g)) in
     (t, o .refused (λ z. absurd (omega arith)))
+
+-- a claim speaks of content: after a change and a change back to the old record the old digest is a good claim again
+pub old-claim : (w : World) (rs : List (List ℕ)) → Stands w rs → (place : ℕ) (x claim out claim' out' : List ℕ) (d : Call)
+    → call w (Change place x claim out) .answer .number ≡ 0
+    → call (next w (Change place x claim out)) (Change place (take 40 (drop (40 * place) (w .sheet))) claim' out') .answer .number ≡ 0
+    → firstOf (refusalsOf (next (next w (Change place x claim out)) (Change place (take 40 (drop (40 * place) (w .sheet))) claim' out')) d false) ≡ 0
+    → claimOf d ≡ luffa (w .code) (joined rs)
+    → call (next (next w (Change place x claim out)) (Change place (take 40 (drop (40 * place) (w .sheet))) claim' out')) d .answer .number ≡ 0
+unfolding next left acceptedWith countOf
+old-claim w rs s place x claim out claim' out' d a b v e =
+    let c : Call = Change place x claim out in
+    let c' : Call = Change place (take 40 (drop (40 * place) (w .sheet))) claim' out' in
+    let w' : World = next (next w c) c' in
+    let s' : Stands (next w c) (applied 0 rs c) = rw a at (stands-next w c rs s) in
+    let s'' : Stands w' (applied 0 (applied 0 rs c) c') = rw b at (stands-next (next w c) c' (applied 0 rs c) s') in
+    let n : w' .n ≡ w .n =
+    ap (λ (o : SheetOutcome). o .answer .count) (accepted-is (next w c) c' b .1)
+    ∙ ap (λ (o : SheetOutcome). o .answer .count) (accepted-is w c a .1) in
+    let h : held (w' .n) (w' .sheet) ≡ joined rs =
+    ap₂ held n (change-back w place x claim out claim' out' (s .marks-true) a b .sheet-again) ∙ s .holds in
+    save-accepted w' d (s'' .marks-true) .1 (v, e ∙ ap (luffa (w .code)) (sym h))

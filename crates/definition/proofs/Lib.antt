@@ -30,3 +30,4 @@ pub mod Answers
 pub mod Joined
 pub mod Demand3
 pub mod Examples
+pub mod Instances
