@@ -1,5 +1,5 @@
 -- Demand 2 over the byte form: a message digested at once, and the same message fed in pieces to a kept hash record and finished, give the
--- same digest, whatever the pieces; and each call's answer and buffer are determined by what it is given.
+-- same digest, whatever the pieces.
 -- Assumes nothing.
 use mathlib.Core.Path.{_≡_, refl, sym, ap, _∙_}
 use mathlib.Core.Bool.{true}
@@ -204,21 +204,3 @@ demand2 code r ps out k e h l =
       finished = rw (s, ← f) (finish-done code (joined ps) out k h l);
       digested = digest-done code (joined ps) out k h l;
     }
-
--- two outcomes that one function of the inputs gives are the same
-same : {A : Type 0} {a b c : A} → a ≡ c → b ≡ c → a ≡ b
-same p q = p ∙ sym q
-
--- each call's answer and buffer are determined by what it is given
-pub digest-determined : (code : ℕ) (message out : List ℕ) (a b : Outcome)
-    → a ≡ digestOutcome code message out → b ≡ digestOutcome code message out → a ≡ b
-digest-determined code message out a b p q = same p q
-
-pub start-determined : (code : ℕ) (r : List ℕ) (a b : Outcome) → a ≡ startOutcome code r → b ≡ startOutcome code r → a ≡ b
-start-determined code r a b p q = same p q
-
-pub feed-determined : (r piece : List ℕ) (a b : Outcome) → a ≡ feedOutcome r piece → b ≡ feedOutcome r piece → a ≡ b
-feed-determined r piece a b p q = same p q
-
-pub finish-determined : (r out : List ℕ) (a b : Outcome) → a ≡ finishOutcome r out → b ≡ finishOutcome r out → a ≡ b
-finish-determined r out a b p q = same p q

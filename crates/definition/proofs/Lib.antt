@@ -18,6 +18,7 @@ pub mod Records
 pub mod Bounds
 pub mod Demand2
 pub mod AnyRecord
+pub mod Determined
 pub mod Computed
 pub mod Vectors
 pub mod Sheet
