@@ -114,7 +114,7 @@ uint32_t luffa_finish(const uint8_t *record, size_t record_len, uint8_t *out, si
  * room that an append takes.
  *
  * A save goes like this:
- *   - Open: build the marks, unless they were kept with the sheet, and keep the digest beside what
+ *   - Open: build, unless marks and digest were kept with the sheet, and hold the digest beside what
  *     the planner sees.
  *   - Save: change, append or drop with that digest as the claim. Where done, sheet and marks are
  *     the new ones, the answer has the new n, and the digest in out is the claim of the next save.

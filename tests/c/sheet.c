@@ -207,6 +207,17 @@ static void false_mark(size_t code, size_t n)
                            s.out_len);
     check(got.number == LUFFA_DONE && got.count == n && memcmp(s.out, held, digest_bytes[code]) == 0,
           "drop at %zu from a false mark", n + 1);
+
+    /* The last record changed: from this mark, or from the one before it where the last group is empty. */
+    uint8_t old[RECORD];
+    memcpy(old, s.sheet + RECORD * s.place, RECORD);
+    memcpy(s.sheet + RECORD * s.place, s.record, RECORD);
+    from_mark(s.place / 4, n, after);
+    memcpy(s.sheet + RECORD * s.place, old, RECORD);
+    got = luffa_sheet_change(code, s.sheet, s.sheet_len, n, s.marks, s.marks_len, s.place, s.record, RECORD, held,
+                             digest_bytes[code], s.out, s.out_len);
+    check(got.number == LUFFA_DONE && got.count == n && memcmp(s.out, after, digest_bytes[code]) == 0,
+          "change at %zu from a false mark", s.place);
 }
 
 int main(void)

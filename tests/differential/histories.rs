@@ -120,8 +120,9 @@ struct History {
     n: usize,
     sheet: Vec<u8>,
     marks: Vec<u32>,
-    /// The plain sheet, while the marks are true.
+    /// The plain sheet, while the marks are true, and its digest.
     plain: Option<Sheet>,
+    digest: Vec<u8>,
     /// The digest that each planner has seen last.
     seen: [Vec<u8>; 2],
 }
@@ -135,33 +136,38 @@ impl Numbers {
         (0..n).map(|_| self.next() as u32).collect()
     }
 
-    /// A number of records: those where a group or the sheet begins or ends, or any.
+    /// A number of records: those where a group or the sheet begins or ends, or any. Large sheets
+    /// take long, so there are few.
     fn records(&mut self) -> usize {
         match self.between(0, 299) {
             0 => MOST,
-            1 => 1023,
-            2 => self.between(1000, MOST),
-            3..=9 => self.between(30, 150),
-            10..=150 => self.one_of(&[0, 1, 3, 4, 5]),
+            1 | 2 => 1023,
+            3 => self.between(1000, MOST),
+            4..=9 => self.between(30, 150),
+            10..=150 => self.one_of(&[0, 0, 1, 3, 4, 5]),
             _ => self.between(0, 24),
         }
     }
 }
 
-/// A sheet of any bytes, with buffers that are just large enough or larger. Its marks are any words.
+/// A sheet of any bytes, with buffers that are just large enough or larger. Its marks are any words,
+/// and so is what the planners have seen.
 fn any_sheet(numbers: &mut Numbers) -> History {
     let n = numbers.records();
-    let room = n + numbers.one_of(&[0, 0, 1, 2, 6]);
+    let room = n + numbers.one_of(&[0, 1, 1, 2, 6]);
     let sheet = RECORD_BYTES * room + numbers.one_of(&[0, 0, 0, 1, 39]);
-    let room = n + numbers.one_of(&[0, 0, 1, 2, 6]);
+    let room = n + numbers.one_of(&[0, 1, 1, 2, 6]);
     let marks = words_for(room) + numbers.one_of(&[0, 0, 0, 1, 39]);
+    let code = numbers.code();
+    let d = digest_bytes(code);
     History {
-        code: numbers.code(),
+        code,
         n,
         sheet: numbers.bytes(sheet),
         marks: numbers.words(marks),
         plain: None,
-        seen: [vec![], vec![]],
+        digest: vec![],
+        seen: [numbers.bytes(d), numbers.bytes(d)],
     }
 }
 
@@ -295,7 +301,10 @@ impl History {
         if self.sheet[..RECORD_BYTES * count] != *plain.records.as_flattened() {
             return Err(format!("{what}: other records than the plain sheet's\n"));
         }
-        if number == 0 && !out.starts_with(&plain.digest()) {
+        if number == 0 {
+            self.digest = plain.digest();
+        }
+        if number == 0 && !out.starts_with(&self.digest) {
             return Err(format!("{what}: another digest than the plain sheet's\n"));
         }
         let used = 8 * CODES[self.code - 1].0;
@@ -362,7 +371,7 @@ impl History {
         let given = self.given(numbers, planner);
         let answer = self.call(Call::Build, given, met)?;
         assert_eq!(answer.number, 0);
-        self.seen[planner] = self.plain.as_ref().unwrap().digest();
+        self.seen[planner] = self.digest.clone();
         Ok(())
     }
 
@@ -398,13 +407,10 @@ impl History {
         if self.plain.is_none() && numbers.between(0, 2) > 0 {
             given.claim = held(&given).0;
         }
-        let outdated = match &self.plain {
-            Some(plain) => plain.digest() != given.claim,
-            None => false,
-        };
+        let outdated = self.plain.is_some() && self.digest != given.claim;
         match numbers.between(0, 5) {
             0 => {
-                for _ in 0..numbers.one_of(&[1, 1, 2, 3]) {
+                for _ in 0..numbers.one_of(&[1, 2, 3, 4]) {
                     self.spoil(&mut given, numbers);
                 }
                 let call = numbers.one_of(&CALLS);
@@ -431,11 +437,7 @@ impl History {
                     self.open(planner, numbers, met)?;
                 }
             }
-            0 => {
-                if let Some(plain) = &self.plain {
-                    self.seen[planner] = plain.digest();
-                }
-            }
+            0 if self.plain.is_some() => self.seen[planner] = self.digest.clone(),
             _ => (),
         }
         Ok(())
@@ -444,9 +446,12 @@ impl History {
 
 pub fn history(numbers: &mut Numbers, met: &mut Met) -> Agreed {
     let mut history = any_sheet(numbers);
-    history.open(0, numbers, met)?;
-    history.seen[1] = history.seen[0].clone();
-    for _ in 0..numbers.between(2, 14) {
+    // At times nothing was ever built, and the marks are any words.
+    if numbers.between(0, 15) > 0 {
+        history.open(0, numbers, met)?;
+        history.seen[1] = history.seen[0].clone();
+    }
+    for _ in 0..numbers.between(2, 10) {
         history.step(numbers, met)?;
     }
     Ok(())
