@@ -149,9 +149,11 @@ static void one_bit(size_t code, size_t n)
     built_sheet(&s, code, n, 1);
     for (size_t bit = 0; bit < 8 * digest_bytes[code]; bit++) {
         s.claim[bit / 8] ^= (uint8_t)(1 << bit % 8);
-        sheet_call(LUFFA_STALE, n > 0 ? CHANGE : APPEND, &s);
-        sheet_call(LUFFA_STALE, n > 0 ? DROP : APPEND, &s);
         sheet_call(LUFFA_STALE, APPEND, &s);
+        if (n > 0) {
+            sheet_call(LUFFA_STALE, CHANGE, &s);
+            sheet_call(LUFFA_STALE, DROP, &s);
+        }
         s.claim[bit / 8] ^= (uint8_t)(1 << bit % 8);
     }
     sheet_call(LUFFA_DONE, APPEND, &s);

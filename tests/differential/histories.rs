@@ -9,6 +9,7 @@ use crate::model::digest_bytes;
 use crate::sheet::{Saved, Sheet, MARK_WORDS, MOST, RECORD_BYTES};
 use crate::sheet_model::{held, refusals, Answer, Call, Given};
 use crate::{Agreed, Numbers};
+use std::cmp::Ordering::Equal;
 use std::collections::BTreeMap;
 
 const CALLS: [Call; 4] = [Call::Build, Call::Change, Call::Append, Call::Drop];
@@ -24,6 +25,56 @@ impl Met {
 
     fn times(&self, kind: &str) -> u64 {
         self.0.get(kind).copied().unwrap_or(0)
+    }
+
+    /// Counts what a call was: the number answered, and the refusals that hold.
+    fn note(&mut self, call: Call, given: &Given, number: u64, hold: &[u64], false_marks: bool) {
+        let (code, n) = (given.code, given.n);
+        self.see(format!("{call:?} answered {number}"));
+        if let [one] = hold {
+            self.see(format!("{call:?} with {one} alone"));
+        }
+        for (i, a) in hold.iter().enumerate() {
+            for b in &hold[i + 1..] {
+                self.see(format!("{call:?} with {a} and {b}"));
+            }
+        }
+        let fits = |n| {
+            let (sheet, marks) = (given.sheet.len(), given.marks.len());
+            (sheet.cmp(&(RECORD_BYTES * n)), marks.cmp(&words_for(n)))
+        };
+        if hold == [8] {
+            let (sheet, marks) = fits(n + 1);
+            match (n == MOST, sheet.is_lt(), marks.is_lt()) {
+                (true, false, false) => self.see("Append full at 1,024 alone".into()),
+                (false, true, false) => self.see("Append full for the sheet alone".into()),
+                (false, false, true) => self.see("Append full for the marks alone".into()),
+                _ => (),
+            }
+        }
+        if call != Call::Build && false_marks {
+            match number {
+                0 => self.see(format!("{call:?} done, marks false")),
+                11 => self.see(format!("{call:?} stale, marks false")),
+                _ => (),
+            }
+        }
+        if number != 0 {
+            return;
+        }
+        self.see(format!("{call:?} done, code {code}"));
+        if EDGES.contains(&n) {
+            self.see(format!("{call:?} done, n = {n}"));
+        }
+        let needed = if call == Call::Append { n + 1 } else { n };
+        if fits(needed) == (Equal, Equal) {
+            self.see(format!("{call:?} done, buffers just enough, code {code}"));
+        }
+        match call {
+            Call::Append if n % 4 == 3 => self.see("Append done, mark written".into()),
+            Call::Drop if n % 4 == 0 => self.see("Drop done, mark zeroed".into()),
+            _ => (),
+        }
     }
 
     /// Prints the counts, and answers the kinds that should have been met and weren't.
@@ -201,56 +252,11 @@ impl History {
 
     /// Makes the call on both sides, judges it by the plain sheet too, and takes over what it left.
     fn call(&mut self, call: Call, mut given: Given, met: &mut Met) -> Result<Answer, String> {
-        let (n, false_marks) = (given.n, self.plain.is_none());
         let before = given.clone();
         let hold = refusals(call, &given);
         let answer = calls::sheet(call, &mut given)?;
         let number = answer.number;
-
-        met.see(format!("{call:?} answered {number}"));
-        if let [one] = hold[..] {
-            met.see(format!("{call:?} with {one} alone"));
-        }
-        for (i, a) in hold.iter().enumerate() {
-            for b in &hold[i + 1..] {
-                met.see(format!("{call:?} with {a} and {b}"));
-            }
-        }
-        if number == 11 && false_marks {
-            met.see(format!("{call:?} stale, marks false"));
-        }
-        if number == 0 {
-            let most = if call == Call::Append { n + 1 } else { n };
-            met.see(format!("{call:?} done, code {}", self.code));
-            if EDGES.contains(&n) {
-                met.see(format!("{call:?} done, n = {n}"));
-            }
-            if before.sheet.len() == RECORD_BYTES * most && before.marks.len() == words_for(most) {
-                met.see(format!(
-                    "{call:?} done, buffers just enough, code {}",
-                    self.code
-                ));
-            }
-            if call != Call::Build && false_marks {
-                met.see(format!("{call:?} done, marks false"));
-            }
-            match call {
-                Call::Append if n % 4 == 3 => met.see("Append done, mark written".into()),
-                Call::Drop if n % 4 == 0 => met.see("Drop done, mark zeroed".into()),
-                _ => (),
-            }
-        }
-        if hold == [8] {
-            let sheet = before.sheet.len() < RECORD_BYTES * (n + 1);
-            let marks = before.marks.len() < words_for(n + 1);
-            match (n == MOST, sheet, marks) {
-                (true, false, false) => met.see("Append full at 1,024 alone".into()),
-                (false, true, false) => met.see("Append full for the sheet alone".into()),
-                (false, false, true) => met.see("Append full for the marks alone".into()),
-                _ => (),
-            }
-        }
-
+        met.note(call, &before, number, &hold, self.plain.is_none());
         // A call that was lent less of a buffer leaves the rest of it as it was.
         if number == 0 {
             self.n = given.n;
@@ -320,24 +326,18 @@ impl History {
     fn spoil(&self, given: &mut Given, numbers: &mut Numbers) {
         let n = self.n;
         let d = digest_bytes(self.code);
-        // 40 times this, or this plus 1 in words of marks, is small once it is cut to 64 bits.
-        let wraps = usize::MAX / 40 + 1;
+        // Such as are few once they are cut to 32 bits, or whose bytes are few once cut to 64.
+        let (wide, wraps) = (1 << 32, usize::MAX / 40 + 1);
         match numbers.between(0, 13) {
             0 => given.code = numbers.one_of(&[0, 5, 6, 1 << 8 | 2, 1 << 32 | 4, usize::MAX]),
             1 => given.out.truncate(d - 1),
-            2 => {
-                let wide = 1 << 32;
-                given.n = numbers.one_of(&[MOST + 1, MOST + 4, wide, wide + n, wraps]);
-            }
+            2 => given.n = numbers.one_of(&[MOST + 1, MOST + 4, wide, wide + n, wraps]),
             3 => given.n = numbers.one_of(&[usize::MAX, usize::MAX - 3, 1 << 63, 1 << 62]),
             4 => given.sheet.truncate((RECORD_BYTES * n).saturating_sub(1)),
             5 => given
                 .marks
                 .truncate(words_for(n) - numbers.one_of(&[1, 40])),
-            6 => {
-                let wide = 1 << 32;
-                given.place = numbers.one_of(&[n, n + 1, wide, wraps, usize::MAX, 1 << 63]);
-            }
+            6 => given.place = numbers.one_of(&[n, n + 1, wide, wraps, usize::MAX, 1 << 63]),
             7 => given
                 .sheet
                 .truncate(RECORD_BYTES * n + numbers.one_of(&[0, 39])),
