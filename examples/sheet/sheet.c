@@ -9,6 +9,7 @@
 /* What is kept of a sheet: its records, their number, and their marks. */
 static uint8_t sheet[LUFFA_SHEET_RECORD_BYTES * LUFFA_SHEET_MOST];
 static uint32_t marks[LUFFA_MARKS_FOR(LUFFA_SHEET_MOST)];
+static const size_t marks_len = sizeof marks / sizeof *marks;
 static size_t n;
 
 static void show(const char *what, struct luffa_sheet_answer answer)
@@ -20,7 +21,7 @@ static void show(const char *what, struct luffa_sheet_answer answer)
 /* Opens the sheet: builds its marks and gives its digest. */
 static void open_sheet(const char *who, uint8_t *digest)
 {
-    show(who, luffa_sheet_build(LUFFA_256, sheet, sizeof sheet, n, marks, sizeof marks / 4, digest, LUFFA_256_BYTES));
+    show(who, luffa_sheet_build(LUFFA_256, sheet, sizeof sheet, n, marks, marks_len, digest, LUFFA_256_BYTES));
 }
 
 /* Saves a record at a place, if the sheet is still the one with this digest, and then has the digest
@@ -31,8 +32,8 @@ static uint64_t save(const char *who, size_t place, const char *text, uint8_t *d
 
     snprintf((char *)record, sizeof record, "%s", text);
     struct luffa_sheet_answer answer =
-        luffa_sheet_change(LUFFA_256, sheet, sizeof sheet, n, marks, sizeof marks / 4, place, record, sizeof record,
-                           digest, LUFFA_256_BYTES, after, sizeof after);
+        luffa_sheet_change(LUFFA_256, sheet, sizeof sheet, n, marks, marks_len, place, record, sizeof record, digest,
+                           LUFFA_256_BYTES, after, sizeof after);
     show(who, answer);
     if (answer.number == LUFFA_DONE)
         memcpy(digest, after, sizeof after);
