@@ -68,7 +68,7 @@ pub overwrite-front : (p l : List ℕ) → overwriteAt 0 p l ≡ overwrite p l
 unfolding overwriteAt overwrite
 overwrite-front p l = rw zero-add
 
-drop-take : (d n : ℕ) (l : List ℕ) → drop d (take (d + n) l) ≡ take n (drop d l)
+pub drop-take : (d n : ℕ) (l : List ℕ) → drop d (take (d + n) l) ≡ take n (drop d l)
 drop-take zero n l = rw zero-add
 drop-take (suc d) n [] = rw (suc-add, take-nil)
 drop-take (suc d) n (a ∷ l) = rw suc-add (drop-take d n l)

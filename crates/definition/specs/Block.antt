@@ -2,9 +2,7 @@
 use Prim.Native.Nat.{ℕ, zero, suc, _+_, _*_}
 use mathlib.Core.List.{List, [], _∷_}
 use lib.Bits.{bitXor}
-use mathlib.Core.Bool.{Bool, true, false}
-use lib.Dec.{leb}
-use lib.ListN.{length, getD}
+use lib.ListN.{getD}
 use Rattle.definition.specs.declared.Block.{Block}
 use Rattle.definition.specs.Word.{wordOf}
 
@@ -53,19 +51,3 @@ blockOf x =
       a6 = wordAt x 6;
       a7 = wordAt x 7;
     }
-
--- the first 32 bytes where there are as many, else zero
-unfoldable pub blockWhen : Bool → List ℕ → Block
-blockWhen true x = blockOf x
-blockWhen false x = zeroBlock
-
-unfoldable pub firstBlock : List ℕ → Block
-firstBlock x = blockWhen (leb 32 (length x)) x
-
--- the first word where there are four bytes, else zero
-unfoldable pub wordWhen : Bool → List ℕ → ℕ
-wordWhen true x = wordAt x 0
-wordWhen false x = 0
-
-unfoldable pub firstWord : List ℕ → ℕ
-firstWord x = wordWhen (leb 4 (length x)) x

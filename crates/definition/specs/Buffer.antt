@@ -2,7 +2,7 @@
 use Prim.Native.Nat.{ℕ, _+_}
 use mathlib.Core.List.{List, [], _∷_, _++_}
 use mathlib.Core.Bool.{Bool, true, false, _&&_}
-use lib.Dec.{leb, eqb}
+use lib.Dec.{eqb}
 use lib.ListN.{length, take, drop}
 
 -- p written from place i on
@@ -12,14 +12,6 @@ overwriteAt i p l = take i l ++ p ++ drop (i + length p) l
 -- p written in front: document 01, "a digest stands in the first bytes of the output buffer and the bytes after it are untouched"
 unfoldable pub overwrite : List ℕ → List ℕ → List ℕ
 overwrite p l = p ++ drop (length p) l
-
--- p written from place i on where there is room for it whole, else nothing
-unfoldable pub writeWhen : Bool → ℕ → List ℕ → List ℕ → List ℕ
-writeWhen true i p l = overwriteAt i p l
-writeWhen false i p l = l
-
-unfoldable pub writeAt : ℕ → List ℕ → List ℕ → List ℕ
-writeAt i p l = writeWhen (leb (i + length p) (length l)) i p l
 
 -- the same elements, and as many
 abbrev pub same : List ℕ → List ℕ → Bool

@@ -10,12 +10,13 @@ use lib.ListN.{length, take, drop, replicate, length-append, length-drop, drop-o
 use Rattle.definition.specs.declared.Kept.{Kept}
 use Rattle.definition.specs.declared.State.{State}
 use Rattle.definition.specs.Word.{wordOf, bytesOf, bytesOfAll}
-use Rattle.definition.specs.Block.{blockOf, wordAt, wordsOf, blockWhen, firstBlock, wordWhen, firstWord}
+use Rattle.definition.specs.Block.{blockOf, wordAt, wordsOf}
 use Rattle.definition.specs.State.{five}
-use Rattle.definition.specs.Buffer.{overwriteAt, writeAt}
+use Rattle.definition.specs.Buffer.{overwriteAt}
+use Rattle.rounds.specs.Total.{blockWhen, firstBlock, wordWhen, firstWord, writeAt}
 use Rattle.definition.specs.Record.{wordsOfAll, countWords, encode}
 use Rattle.definition.proofs.Word.{bytes-of-word}
-use Rattle.definition.proofs.Buffer.{write-at, writeAt-more}
+use Rattle.rounds.proofs.Total.{write-at, writeAt-more}
 use Rattle.rounds.proofs.Parts.{part-rest}
 use Rattle.definition.proofs.Records.{length-bytes}
 

@@ -1,4 +1,5 @@
--- Laws of lists that the proofs share.
+-- Laws that the proofs share.
 pub mod Parts
+pub mod Total
 pub mod Words
 pub mod Digests

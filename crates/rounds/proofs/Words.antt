@@ -22,13 +22,15 @@ use Rattle.definition.specs.Start.{blockCount}
 use Rattle.definition.specs.State.{five, blocksIn, stateOf}
 use Rattle.definition.specs.Final.{outputs, finalRounds, final}
 use Rattle.definition.specs.Counted.{countedRound, countedChain}
-use Rattle.definition.specs.Buffer.{overwrite, writeAt}
-use Rattle.definition.proofs.Buffer.{write-more, length-overwrite}
+use Rattle.definition.specs.Buffer.{overwrite}
+use Rattle.definition.proofs.Buffer.{length-overwrite}
 use Rattle.definition.proofs.Chain.{counted-snoc, counted-state, length-blocksIn}
 use Rattle.definition.proofs.Records.{length-bytes}
 use Rattle.definition.proofs.Final.{blank, length-outputs, output-at, xor-five, length-blank}
 use Rattle.rounds.specs.declared.squeeze.Squeezed.{Squeezed}
+use Rattle.rounds.specs.Total.{writeAt}
 use Rattle.rounds.specs.Squeeze.{withOutput, turnedWhen, turned, begun, squeezed, wordsTo}
+use Rattle.rounds.proofs.Total.{write-more}
 
 -- n blank rounds with their count
 blanks : Width → Counted → ℕ → Counted

@@ -3,8 +3,8 @@ ghost use mathlib.Core.Path.{_≡_};
 ghost use Prim.Native.Nat.{_+_, _≤_};
 ghost use lib.ListN.{length, getD};
 ghost use Rattle.definition.specs.Word.{wordOf, bytesOf, bytesOfAll};
-ghost use Rattle.definition.specs.Block.{blockOf, firstBlock, firstWord};
-ghost use Rattle.definition.specs.Buffer.{writeAt};
+ghost use Rattle.definition.specs.Block.{blockOf};
+ghost use Rattle.rounds.specs.Total.{firstBlock, firstWord, writeAt};
 use definition::Block;
 
 fn word(x0: u8, x1: u8, x2: u8, x3: u8) -> u32

@@ -24,19 +24,17 @@ use Rattle.definition.specs.Buffer.{overwriteAt, overwrite}
 use Rattle.definition.specs.Record.{wordsOfAll}
 use Rattle.definition.specs.Sheet.{q}
 use Rattle.definition.specs.Marks.{held, markAt, stateFrom, markOf, marksAfter, digestAfter, roundsAfter, worked}
-use Rattle.definition.proofs.Buffer.{overwriteAt-more, length-overwriteAt, write-at, write-none}
+use Rattle.definition.proofs.Buffer.{overwriteAt-more, overwriteAt-none, length-overwriteAt}
 use Rattle.definition.proofs.Chain.{counted-append, counted-state, counted-blocks, counted-rounds}
 use Rattle.definition.proofs.Codes.{words-le}
 use Rattle.definition.proofs.Padding.{blocks-append}
+use Rattle.definition.proofs.Writes.{drop-take}
 use Rattle.definition.proofs.Marks.{padded-append, padded-blocks, length-mark}
 use Rattle.rounds.proofs.Digests.{all-words, squeezed-out}
 
 -- the records held from place i on, where they lie in the sheet
-pub from-place : (i j : ℕ) (l : List ℕ) → i ≤ j → j ≤ length l → take (j - i) (drop i l) ≡ drop i (take j l)
-from-place i j l h n =
-    sym
-    (ap (drop i) (ap (λ (k : ℕ). take k l) {x = j} {y = i + (j - i)} (omega arith) ∙ take-add i (j - i) l)
-    ∙ drop-at (take i l) (take (j - i) (drop i l)) i (length-take-le i l (omega arith)))
+from-place : (i j : ℕ) (l : List ℕ) → i ≤ j → take (j - i) (drop i l) ≡ drop i (take j l)
+from-place i j l h = sym (drop-take i (j - i) l) ∙ ap (λ (k : ℕ). drop i (take k l)) {x = i + (j - i)} {y = j} (omega arith)
 
 -- and a group of them
 group-there : (k n : ℕ) (sheet : List ℕ) → k < q n → 40 * n ≤ length sheet
@@ -45,7 +43,7 @@ unfolding held q
 group-there k n sheet h l =
     ap (λ (a : ℕ). take a (drop (160 * k) sheet)) {x = 160 * k + 160 - 160 * k} {y = 160} (omega arith)
     ∙ sym (take-take 160 (40 * n - 160 * k) (drop (160 * k) sheet) (omega arith))
-    ∙ ap (take 160) (from-place (160 * k) (40 * n) sheet (omega arith) l)
+    ∙ ap (take 160) (from-place (160 * k) (40 * n) sheet (omega arith))
 
 -- what is still to come from mark k on: the marks as they will be, and the state with its count after the padded rest
 pub record Ahead : Type 0 where
@@ -122,7 +120,7 @@ unfolding marksAfter
 nothing-written w n h x marks r =
     let i : ℕ = 40 * (q n + 1) in
     let j : q n - q n ≡ 0 = omega arith in
-    rw j (sym (write-at i [] marks (omega arith)) ∙ write-none i marks r)
+    rw j (overwriteAt-none i marks r)
 
 last-marks : (w : Width) (n : ℕ) (c : Counted) (sheet marks : List ℕ) → 40 * (q n + 1) ≤ length marks → ahead w n sheet (q n) c marks .marks ≡ marks
 unfolding ahead
@@ -171,7 +169,7 @@ module _ (code n m before : ℕ) (sheet marks : List ℕ) (s : State) where
   unfolding ahead held q
   absorbed-is k c d marks' g l f e =
       e
-      ∙ ap (λ (x : List ℕ). countedChain (widthAt code) c (blocks (padded closing x))) (from-place (160 * (n / 4)) (40 * n) sheet (omega arith) l)
+      ∙ ap (λ (x : List ℕ). countedChain (widthAt code) c (blocks (padded closing x))) (from-place (160 * (n / 4)) (40 * n) sheet (omega arith))
       ∙ ap (λ (i : ℕ). countedChain (widthAt code) c (blocks (padded closing (drop (160 * i) (take (40 * n) sheet))))) (sym g)
       ∙ ap (λ (a : Ahead). a .counted) f
 

@@ -12,7 +12,7 @@ use Rattle.definition.specs.Sheet.{q}
 use Rattle.definition.specs.SheetCalls.{refusedWith}
 use Rattle.definition.specs.Run.{World, Call, call, claimOf, outOf, placeOf, countOf, refusalsOf}
 use Rattle.definition.specs.Run.Call.{Change}
-use Rattle.definition.proofs.Buffer.{write-at, length-writeAt}
+use Rattle.rounds.proofs.Total.{write-at, length-writeAt}
 use Rattle.definition.proofs.Saves.{recordOf, marksOf, Valid, valid}
 use Rattle.definition.proofs.Answers.{refused-first, stale-first}
 use Rattle.sheet.specs.declared.work.Checked.{Checked}

@@ -4,7 +4,7 @@ use mathlib.Core.Path.{_∙_}
 use native.Mathlib.Omega.{arith}
 use denote.Ref.{now}
 use borrow.Author.Needs.{needs}
-use Rattle.definition.proofs.Buffer.{write-at}
+use Rattle.rounds.proofs.Total.{write-at}
 use Rattle.hash.proofs.record.pasted.Statement.{statement}
 use Rattle.hash.proofs.record.pasted.Tie as tie
 

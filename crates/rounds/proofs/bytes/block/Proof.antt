@@ -2,7 +2,7 @@
 -- Assumes nothing.
 use borrow.Author.Needs.{needs}
 use borrow.Author.Tests.{lt-leb, le-leb}
-use Rattle.definition.specs.Block.{blockWhen, firstBlock}
+use Rattle.rounds.specs.Total.{blockWhen, firstBlock}
 use Rattle.rounds.proofs.bytes.block.Statement.{statement}
 use Rattle.rounds.proofs.bytes.block.Tie as tie
 

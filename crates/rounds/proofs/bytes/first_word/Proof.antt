@@ -2,7 +2,8 @@
 -- Assumes nothing.
 use borrow.Author.Needs.{needs}
 use borrow.Author.Tests.{lt-leb, le-leb}
-use Rattle.definition.specs.Block.{wordAt, wordWhen, firstWord}
+use Rattle.definition.specs.Block.{wordAt}
+use Rattle.rounds.specs.Total.{wordWhen, firstWord}
 use Rattle.rounds.proofs.bytes.first_word.Statement.{statement}
 use Rattle.rounds.proofs.bytes.first_word.Tie as tie
 

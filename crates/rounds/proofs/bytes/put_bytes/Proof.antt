@@ -9,7 +9,7 @@ use denote.Ref.{now}
 use lib.ListN.{length, take, drop, length-set}
 use lib.Seq.{paste, paste-zero, paste-suc, length-paste, take-length}
 use Rattle.definition.specs.Buffer.{overwriteAt}
-use Rattle.definition.proofs.Buffer.{write-at, write-not}
+use Rattle.rounds.proofs.Total.{write-at, write-not}
 use Rattle.rounds.proofs.bytes.put_bytes.Statement.{statement}
 use Rattle.rounds.proofs.bytes.put_bytes.Tie as tie
 

@@ -11,7 +11,8 @@ use denote.Ref.{now}
 use lib.ListN.{length, length-set}
 use lib.Seq.{sets-eq}
 use Rattle.definition.specs.Word.{bytesOf}
-use Rattle.definition.specs.Buffer.{overwriteAt, writeWhen, writeAt}
+use Rattle.definition.specs.Buffer.{overwriteAt}
+use Rattle.rounds.specs.Total.{writeWhen, writeAt}
 use Rattle.rounds.proofs.bytes.put_word.Statement.{statement}
 use Rattle.rounds.proofs.bytes.put_word.Tie as tie
 

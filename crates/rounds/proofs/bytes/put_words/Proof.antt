@@ -9,8 +9,8 @@ use denote.Ref.{now}
 use lib.ListN.{length, getD, take}
 use lib.Seq.{take-suc, take-length, length-take-le}
 use Rattle.definition.specs.Word.{bytesOf, bytesOfAll}
-use Rattle.definition.specs.Buffer.{writeAt}
-use Rattle.definition.proofs.Buffer.{write-none, write-not, writeAt-more, length-writeAt}
+use Rattle.rounds.specs.Total.{writeAt}
+use Rattle.rounds.proofs.Total.{write-none, write-not, writeAt-more, length-writeAt}
 use Rattle.definition.proofs.Records.{length-bytes}
 use Rattle.rounds.proofs.Words.{bytes-snoc}
 use Rattle.rounds.proofs.bytes.put_words.Statement.{statement}
