@@ -1,0 +1,66 @@
+//! The codes, which name the digest's length.
+
+use crate::Error;
+
+/// Which of the four digests, by the numbers that the library takes.
+///
+/// ```
+/// use luffa::Code;
+///
+/// assert_eq!(Code::Luffa384.number(), 3);
+/// assert_eq!(Code::Luffa384.digest_bytes(), 48);
+/// ```
+#[derive(Clone, Copy, Debug, PartialEq, Eq, Hash)]
+pub enum Code {
+    /// 224 bits.
+    Luffa224 = 1,
+    /// 256 bits.
+    Luffa256 = 2,
+    /// 384 bits.
+    Luffa384 = 3,
+    /// 512 bits.
+    Luffa512 = 4,
+}
+
+impl Code {
+    /// Every code, in the order of their numbers.
+    ///
+    /// ```
+    /// let bytes = luffa::Code::ALL.map(|code| code.digest_bytes());
+    /// assert_eq!(bytes, [28, 32, 48, 64]);
+    /// ```
+    pub const ALL: [Code; 4] = [
+        Code::Luffa224,
+        Code::Luffa256,
+        Code::Luffa384,
+        Code::Luffa512,
+    ];
+
+    /// The code with this number, or [`Error::Width`] if there is none.
+    ///
+    /// ```
+    /// use luffa::{Code, Error};
+    ///
+    /// assert_eq!(Code::from_number(2), Ok(Code::Luffa256));
+    /// assert_eq!(Code::from_number(5), Err(Error::Width));
+    /// ```
+    pub fn from_number(number: usize) -> Result<Code, Error> {
+        let known = Code::ALL.into_iter().find(|code| code.number() == number);
+        known.ok_or(Error::Width)
+    }
+
+    /// The code's number, 1 to 4.
+    pub const fn number(self) -> usize {
+        self as usize
+    }
+
+    /// The bytes of a digest at this code.
+    pub const fn digest_bytes(self) -> usize {
+        match self {
+            Code::Luffa224 => 28,
+            Code::Luffa256 => 32,
+            Code::Luffa384 => 48,
+            Code::Luffa512 => 64,
+        }
+    }
+}

@@ -1,0 +1,115 @@
+//! The refusals of the library, by their numbers.
+
+use std::fmt;
+
+#[cfg(test)]
+mod tests;
+
+/// Why a call was refused. A refused call has changed nothing.
+///
+/// The numbers are those of luffa.h. Some are never met through this crate, as its types leave no way
+/// to them: they stand here so that each number has a name.
+///
+/// ```
+/// use luffa::{Code, Error, Sheet};
+///
+/// let mut sheet = Sheet::new(Code::Luffa256);
+/// let claim = sheet.digest();
+/// let refused = sheet.change(0, &[0; 40], &claim).unwrap_err();
+/// assert_eq!(refused, Error::Place);
+/// assert_eq!(refused.number(), 7);
+/// assert_eq!(refused.to_string(), "there is no record at this place");
+/// ```
+#[derive(Clone, Copy, Debug, PartialEq, Eq, Hash)]
+#[non_exhaustive]
+pub enum Error {
+    /// 1: the code isn't 1 to 4. [`Code::from_number`](crate::Code::from_number) alone gives it.
+    Width,
+    /// 2: the output buffer is shorter than the digest. Never met.
+    Out,
+    /// 3: the hash record isn't well formed, or is of another code or length.
+    Record,
+    /// 4: the message would pass [`LIMIT`](crate::LIMIT).
+    Long,
+    /// 5: a sheet of more than 1,024 records, or bytes that aren't whole records.
+    Sheet,
+    /// 6: too few words for the marks. Never met.
+    Marks,
+    /// 7: there is no record at this place.
+    Place,
+    /// 8: the sheet has 1,024 records already.
+    Full,
+    /// 9: the new record isn't 40 bytes. Never met.
+    Size,
+    /// 10: the claim is a digest of another length, or bytes are no digest's length.
+    Claim,
+    /// 11: the claim isn't the digest of the sheet held.
+    Stale {
+        /// The rounds of Luffa in which that was found out.
+        rounds: u64,
+    },
+}
+
+impl Error {
+    /// The number in luffa.h.
+    pub const fn number(self) -> u32 {
+        match self {
+            Error::Width => 1,
+            Error::Out => 2,
+            Error::Record => 3,
+            Error::Long => 4,
+            Error::Sheet => 5,
+            Error::Marks => 6,
+            Error::Place => 7,
+            Error::Full => 8,
+            Error::Size => 9,
+            Error::Claim => 10,
+            Error::Stale { .. } => 11,
+        }
+    }
+
+    /// What a call with this answer gave; the rounds are told by the sheet calls alone.
+    pub(crate) fn judge(number: u64, rounds: u64) -> Result<(), Error> {
+        if number == 0 {
+            return Ok(());
+        }
+        let all = [
+            Error::Width,
+            Error::Out,
+            Error::Record,
+            Error::Long,
+            Error::Sheet,
+            Error::Marks,
+            Error::Place,
+            Error::Full,
+            Error::Size,
+            Error::Claim,
+            Error::Stale { rounds },
+        ];
+        match all.into_iter().find(|e| u64::from(e.number()) == number) {
+            Some(refusal) => Err(refusal),
+            // Another library than the one declared in ffi.rs was linked.
+            None => panic!("libluffa.a answered {number}, which this crate doesn't know"),
+        }
+    }
+}
+
+impl fmt::Display for Error {
+    fn fmt(&self, f: &mut fmt::Formatter) -> fmt::Result {
+        f.write_str(match self {
+            Error::Width => "the code isn't 1 to 4",
+            Error::Out => "the output buffer is shorter than the digest",
+            Error::Record => "this isn't a well-formed hash record of this code",
+            Error::Long => "the message would pass 2^61 - 1 bytes",
+            Error::Sheet => "a sheet is at most 1,024 whole records of 40 bytes",
+            Error::Marks => "there are too few words for the marks",
+            Error::Place => "there is no record at this place",
+            Error::Full => "the sheet has no room for another record",
+            Error::Size => "the new record isn't 40 bytes",
+            Error::Claim => "the claimed digest has another length",
+            Error::Stale { .. } => "the sheet isn't the one whose digest is claimed",
+        })
+    }
+}
+
+impl std::error::Error for Error {}

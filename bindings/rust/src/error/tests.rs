@@ -1,0 +1,98 @@
+//! The refusals: document 01's numbers, each met from the library itself.
+
+use super::Error;
+use crate::ffi::{self, Lent};
+use crate::{Code, Digest, Luffa256, Sheet};
+
+#[test]
+fn numbers_and_sentences() {
+    assert_eq!(Error::judge(0, 0), Ok(()));
+    let mut sentences = Vec::new();
+    for number in 1..=11 {
+        let error = Error::judge(number, 5).unwrap_err();
+        assert_eq!(u64::from(error.number()), number);
+        let source: &dyn std::error::Error = &error;
+        sentences.push(source.to_string());
+    }
+    assert_eq!(Error::judge(11, 5), Err(Error::Stale { rounds: 5 }));
+    sentences.sort();
+    sentences.dedup();
+    assert_eq!(sentences.len(), 11);
+}
+
+#[test]
+#[should_panic(expected = "libluffa.a answered 12")]
+fn an_unknown_number() {
+    let _ = Error::judge(12, 0);
+}
+
+/// What the public calls can meet.
+#[test]
+fn met_by_callers() {
+    let code = Code::Luffa256;
+    assert_eq!(Code::from_number(0), Err(Error::Width));
+    assert_eq!(Code::from_number(5), Err(Error::Width));
+    for code in Code::ALL {
+        assert_eq!(Code::from_number(code.number()), Ok(code));
+    }
+    assert_eq!(Luffa256::from_record(&[0; 208]).err(), Some(Error::Record));
+    let mut record = Luffa256::new().to_record();
+    record[200..].copy_from_slice(&crate::LIMIT.to_be_bytes());
+    let mut hash = Luffa256::from_record(&record).unwrap();
+    assert_eq!(hash.try_update("a"), Err(Error::Long));
+    let over = Sheet::from_records(code, &[[0; 40]; 1025]);
+    assert_eq!(over.err(), Some(Error::Sheet));
+
+    let mut sheet = Sheet::from_records(code, &[[0; 40]; 1024]).unwrap();
+    let (claim, other) = (sheet.digest(), Digest::from([0; 28]));
+    let stale = Digest::from([0; 32]);
+    let new = [1; 40];
+    assert_eq!(sheet.change(1024, &new, &claim), Err(Error::Place));
+    assert_eq!(sheet.append(&new, &claim), Err(Error::Full));
+    assert_eq!(sheet.change(0, &new, &other), Err(Error::Claim));
+    let rounds = 2;
+    assert_eq!(sheet.drop_last(&stale), Err(Error::Stale { rounds }));
+    // Where several hold, the lowest number is given.
+    assert_eq!(sheet.change(1024, &new, &other), Err(Error::Place));
+    assert_eq!(sheet.append(&new, &stale), Err(Error::Full));
+    assert_eq!(Sheet::new(code).drop_last(&stale), Err(Error::Place));
+}
+
+/// What this crate's types leave no way to is known by the same numbers.
+#[test]
+fn met_beneath_the_types() {
+    let mut record = Luffa256::new().to_record();
+    let (mut out, mut sheet, mut marks) = ([0; 32], [0; 80], [0; 40]);
+    assert_eq!(ffi::digest(5, b"", &mut out), Err(Error::Width));
+    assert_eq!(ffi::start(0, &mut record), Err(Error::Width));
+    assert_eq!(ffi::start(2, &mut record[1..]), Err(Error::Record));
+    assert_eq!(ffi::digest(2, b"", &mut out[1..]), Err(Error::Out));
+    assert_eq!(ffi::finish(&record, &mut out[1..]), Err(Error::Out));
+    assert_eq!(ffi::finish(&record[1..], &mut out), Err(Error::Record));
+
+    assert_eq!(ffi::build(0, &sheet, 2, &mut marks, &mut out).number, 1);
+    assert_eq!(
+        ffi::build(2, &sheet, 2, &mut marks, &mut out[1..]).number,
+        2
+    );
+    assert_eq!(ffi::build(2, &sheet, 3, &mut marks, &mut out).number, 5);
+    assert_eq!(
+        ffi::build(2, &sheet, 2, &mut marks[1..], &mut out).number,
+        6
+    );
+    assert_eq!((out, marks), ([0; 32], [0; 40]));
+    let built = ffi::build(2, &sheet, 2, &mut marks, &mut out);
+    assert_eq!((built.number, built.count, built.rounds), (0, 2, 4));
+    let claim = out;
+    let mut lent = Lent {
+        code: 2,
+        sheet: &mut sheet,
+        n: 2,
+        marks: &mut marks,
+    };
+    let short = ffi::change(&mut lent, 0, &[1; 39], &claim, &mut out);
+    assert_eq!(short.number, 9);
+    // The buffers have no room for a third record.
+    let full = ffi::append(&mut lent, &[1; 40], &claim, &mut out);
+    assert_eq!((full.number, full.count, full.rounds), (8, 2, 0));
+}

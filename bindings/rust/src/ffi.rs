@@ -1,0 +1,213 @@
+//! The calls of include/luffa.h over slices. All that is unsafe in this crate is here.
+//!
+//! The library judges every number and every length, so these functions ask nothing of their caller.
+//! What it can't judge, Rust's references promise: a slice is valid for its length, for writing if it
+//! is `&mut`, and nothing else that is lent to the call overlaps a `&mut` one. An empty slice's pointer
+//! isn't read, as luffa.h allows a null one there.
+
+#![allow(unsafe_code)]
+
+use crate::Error;
+
+/// struct luffa_sheet_answer.
+#[derive(Clone, Copy, Debug, PartialEq)]
+#[repr(C)]
+pub struct Answer {
+    pub number: u64,
+    pub count: u64,
+    pub rounds: u64,
+}
+
+// SAFETY: these are luffa.h's declarations, with size_t as usize.
+#[link(name = "luffa", kind = "static")]
+unsafe extern "C" {
+    fn luffa_digest(
+        code: usize,
+        message: *const u8,
+        message_len: usize,
+        out: *mut u8,
+        out_len: usize,
+    ) -> u32;
+    fn luffa_start(code: usize, record: *mut u8, record_len: usize) -> u32;
+    fn luffa_feed(record: *mut u8, record_len: usize, piece: *const u8, piece_len: usize) -> u32;
+    fn luffa_finish(record: *const u8, record_len: usize, out: *mut u8, out_len: usize) -> u32;
+    fn luffa_sheet_build(
+        code: usize,
+        sheet: *const u8,
+        sheet_len: usize,
+        n: usize,
+        marks: *mut u32,
+        marks_len: usize,
+        out: *mut u8,
+        out_len: usize,
+    ) -> Answer;
+    fn luffa_sheet_change(
+        code: usize,
+        sheet: *mut u8,
+        sheet_len: usize,
+        n: usize,
+        marks: *mut u32,
+        marks_len: usize,
+        place: usize,
+        record: *const u8,
+        record_len: usize,
+        claim: *const u8,
+        claim_len: usize,
+        out: *mut u8,
+        out_len: usize,
+    ) -> Answer;
+    fn luffa_sheet_append(
+        code: usize,
+        sheet: *mut u8,
+        sheet_len: usize,
+        n: usize,
+        marks: *mut u32,
+        marks_len: usize,
+        record: *const u8,
+        record_len: usize,
+        claim: *const u8,
+        claim_len: usize,
+        out: *mut u8,
+        out_len: usize,
+    ) -> Answer;
+    fn luffa_sheet_drop(
+        code: usize,
+        sheet: *mut u8,
+        sheet_len: usize,
+        n: usize,
+        marks: *mut u32,
+        marks_len: usize,
+        claim: *const u8,
+        claim_len: usize,
+        out: *mut u8,
+        out_len: usize,
+    ) -> Answer;
+}
+
+pub fn digest(code: usize, message: &[u8], out: &mut [u8]) -> Result<(), Error> {
+    let (message_len, out_len) = (message.len(), out.len());
+    // SAFETY: `message` is read and `out` is written within their lengths; they are distinct borrows.
+    let number = unsafe {
+        luffa_digest(
+            code,
+            message.as_ptr(),
+            message_len,
+            out.as_mut_ptr(),
+            out_len,
+        )
+    };
+    Error::judge(number.into(), 0)
+}
+
+pub fn start(code: usize, record: &mut [u8]) -> Result<(), Error> {
+    // SAFETY: `record` is written within its length, and is the one buffer lent.
+    let number = unsafe { luffa_start(code, record.as_mut_ptr(), record.len()) };
+    Error::judge(number.into(), 0)
+}
+
+pub fn feed(record: &mut [u8], piece: &[u8]) -> Result<(), Error> {
+    let (record_len, piece_len) = (record.len(), piece.len());
+    // SAFETY: `record` is read and written and `piece` is read within their lengths; they are
+    // distinct borrows.
+    let number = unsafe { luffa_feed(record.as_mut_ptr(), record_len, piece.as_ptr(), piece_len) };
+    Error::judge(number.into(), 0)
+}
+
+pub fn finish(record: &[u8], out: &mut [u8]) -> Result<(), Error> {
+    let (record_len, out_len) = (record.len(), out.len());
+    // SAFETY: `record` is read and `out` is written within their lengths; they are distinct borrows.
+    let number = unsafe { luffa_finish(record.as_ptr(), record_len, out.as_mut_ptr(), out_len) };
+    Error::judge(number.into(), 0)
+}
+
+/// A sheet as it is lent to a save: its code, its records and marks with the room behind them, and the
+/// number of records.
+pub struct Lent<'a> {
+    pub code: usize,
+    pub sheet: &'a mut [u8],
+    pub n: usize,
+    pub marks: &'a mut [u32],
+}
+
+pub fn build(code: usize, sheet: &[u8], n: usize, marks: &mut [u32], out: &mut [u8]) -> Answer {
+    // SAFETY: `sheet` is read, `marks` and `out` are written within their lengths, that of marks in
+    // words; they are distinct borrows.
+    unsafe {
+        luffa_sheet_build(
+            code,
+            sheet.as_ptr(),
+            sheet.len(),
+            n,
+            marks.as_mut_ptr(),
+            marks.len(),
+            out.as_mut_ptr(),
+            out.len(),
+        )
+    }
+}
+
+pub fn change(
+    lent: &mut Lent,
+    place: usize,
+    record: &[u8],
+    claim: &[u8],
+    out: &mut [u8],
+) -> Answer {
+    // SAFETY: `lent.sheet` and `lent.marks` are read and written, `record` and `claim` are read, `out`
+    // is written, each within its length; those that are written are distinct borrows from all others.
+    unsafe {
+        luffa_sheet_change(
+            lent.code,
+            lent.sheet.as_mut_ptr(),
+            lent.sheet.len(),
+            lent.n,
+            lent.marks.as_mut_ptr(),
+            lent.marks.len(),
+            place,
+            record.as_ptr(),
+            record.len(),
+            claim.as_ptr(),
+            claim.len(),
+            out.as_mut_ptr(),
+            out.len(),
+        )
+    }
+}
+
+pub fn append(lent: &mut Lent, record: &[u8], claim: &[u8], out: &mut [u8]) -> Answer {
+    // SAFETY: as in `change`.
+    unsafe {
+        luffa_sheet_append(
+            lent.code,
+            lent.sheet.as_mut_ptr(),
+            lent.sheet.len(),
+            lent.n,
+            lent.marks.as_mut_ptr(),
+            lent.marks.len(),
+            record.as_ptr(),
+            record.len(),
+            claim.as_ptr(),
+            claim.len(),
+            out.as_mut_ptr(),
+            out.len(),
+        )
+    }
+}
+
+pub fn drop_last(lent: &mut Lent, claim: &[u8], out: &mut [u8]) -> Answer {
+    // SAFETY: as in `change`, with no new record.
+    unsafe {
+        luffa_sheet_drop(
+            lent.code,
+            lent.sheet.as_mut_ptr(),
+            lent.sheet.len(),
+            lent.n,
+            lent.marks.as_mut_ptr(),
+            lent.marks.len(),
+            claim.as_ptr(),
+            claim.len(),
+            out.as_mut_ptr(),
+            out.len(),
+        )
+    }
+}

@@ -1,0 +1,50 @@
+//! Luffa digests (Luffa specification 2.0.1) of 224, 256, 384 and 512 bits, and sheets of records
+//! that are saved under their digest, over the repository's proved library.
+//!
+//! A message is hashed in one call or piece by piece, as with other hash crates:
+//!
+//! ```
+//! use luffa::Luffa256;
+//!
+//! let mut hash = Luffa256::new();
+//! hash.update("a");
+//! hash.update(b"bc");
+//! assert_eq!(hash.finalize(), Luffa256::digest("abc"));
+//! ```
+//!
+//! A [`Sheet`] takes a change only with the digest of the sheet that was seen:
+//!
+//! ```
+//! use luffa::{Code, Error, Sheet};
+//!
+//! let mut sheet = Sheet::from_records(Code::Luffa256, &[[1; 40], [2; 40]])?;
+//! let seen = sheet.digest();
+//! sheet.change(0, &[3; 40], &seen)?;
+//! // Somebody has saved since: nothing is written.
+//! let stale = sheet.change(1, &[4; 40], &seen);
+//! assert!(matches!(stale, Err(Error::Stale { .. })));
+//! assert_eq!(sheet.records(), [[3; 40], [2; 40]]);
+//! # Ok::<(), Error>(())
+//! ```
+//!
+//! The library allocates nothing and keeps nothing, so every type here may go from thread to thread.
+//! Not claimed, as by the library: that two messages never share a digest, anything about time or
+//! secrecy. Digests are compared with `==`, which may stop at the first byte that differs.
+
+#![forbid(unsafe_op_in_unsafe_fn)]
+#![deny(unsafe_code, missing_docs)]
+
+mod code;
+mod digest;
+mod error;
+mod ffi;
+mod hash;
+#[cfg(test)]
+mod random;
+mod sheet;
+
+pub use code::Code;
+pub use digest::{Digest, ParseDigestError};
+pub use error::Error;
+pub use hash::{LIMIT, Luffa224, Luffa256, Luffa384, Luffa512, RECORD_BYTES};
+pub use sheet::{Saved, Sheet};
