@@ -48,3 +48,8 @@ pub use digest::{Digest, ParseDigestError};
 pub use error::Error;
 pub use hash::{LIMIT, Luffa224, Luffa256, Luffa384, Luffa512, RECORD_BYTES};
 pub use sheet::{Saved, Sheet};
+
+/// The example in the README runs too.
+#[cfg(doctest)]
+#[doc = include_str!("../README.md")]
+struct Readme;
