@@ -38,6 +38,10 @@ impl Digest {
     /// assert_eq!(sheet.digest(), Digest::of(Code::Luffa512, [7; 120]));
     /// # Ok::<(), luffa::Error>(())
     /// ```
+    ///
+    /// # Panics
+    ///
+    /// If the message is longer than [`LIMIT`](crate::LIMIT), as no slice in memory is.
     pub fn of(code: Code, message: impl AsRef<[u8]>) -> Digest {
         let (digest, done) = Digest::written(code, |out| {
             ffi::digest(code.number(), message.as_ref(), out)

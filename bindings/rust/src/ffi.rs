@@ -10,7 +10,6 @@
 use crate::Error;
 
 /// struct luffa_sheet_answer.
-#[derive(Clone, Copy, Debug, PartialEq)]
 #[repr(C)]
 pub struct Answer {
     pub number: u64,
