@@ -83,7 +83,7 @@ fed-pending : (k : Kept) (p : List ℕ) → length (fed k p .pending) ≡ 32
 unfolding fed keptOf
 fed-pending k p = length-pending (k .code) (pendingBytes k ++ p)
 
-fed-well : (k : Kept) (p : List ℕ) → wellKept k ≡ true → length (k .pending) ≡ 32 → k .count + length p ≤ limit
+pub fed-well : (k : Kept) (p : List ℕ) → wellKept k ≡ true → length (k .pending) ≡ 32 → k .count + length p ≤ limit
     → wellKept (fed k p) ≡ true
 unfolding wellKept fed pendingBytes pendingCount
 fed-well k p e l h =

@@ -19,6 +19,8 @@ pub mod Bounds
 pub mod Demand2
 pub mod AnyRecord
 pub mod Determined
+pub mod Working
+pub mod WorkingDemand2
 pub mod Computed
 pub mod Vectors
 pub mod Sheet

@@ -18,6 +18,7 @@ pub mod Buffer
 pub mod Refusal
 pub mod Record
 pub mod Calls
+pub mod Lent
 pub mod Sheet
 pub mod Marks
 pub mod SheetCalls

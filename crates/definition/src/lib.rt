@@ -1,6 +1,7 @@
 // The plain data that the definitions of specs/ and the code of the crates above share. No code stands here.
 
 // A block of 256 bits: eight words of 32 bits, a0 the most significant (source, 2.2).
+#[repr(C)]
 pub struct Block {
     pub a0: u32,
     pub a1: u32,
@@ -34,6 +35,7 @@ pub struct Crumb {
 }
 
 // The state H_0 to H_w-1 in room for five blocks; those that w doesn't use are zero.
+#[repr(C)]
 pub struct State {
     pub h0: Block,
     pub h1: Block,
@@ -49,11 +51,18 @@ pub struct Counted {
 }
 
 // The kept hash record by value: its code, state, pending bytes and the bytes fed so far (document 01, "The kept hash record").
+#[repr(C)]
 pub struct Kept {
     pub code: usize,
     pub state: State,
     pub pending: [u8; 32],
     pub count: u64,
+}
+
+// What a call over a lent working state answers, by value: the refusal number or 0, and the working state as it is at the end.
+pub struct Lent {
+    pub number: u32,
+    pub kept: Kept,
 }
 
 // What a sheet call answers: the refusal number or 0, the records of the sheet, and the rounds run (document 01, "Sheet and marks").
