@@ -4,3 +4,4 @@ pub mod Places
 pub mod Tests
 pub mod Pieces
 pub mod Formed
+pub mod Memory

@@ -1,6 +1,7 @@
 // Luffa over messages and kept hash records: digest, start, feed, finish (document 01, "The kept hash record" and refusals 1 to 4). Each
 // call's outcome, the number and the buffer that was lent for writing, is one function of its inputs.
 mod kept;
+pub mod lent;
 mod record;
 
 ghost use mathlib.Core.Path.{_≡_};
