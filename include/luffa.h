@@ -100,6 +100,41 @@ uint32_t luffa_feed(uint8_t *record, size_t record_len, const uint8_t *piece, si
 uint32_t luffa_finish(const uint8_t *record, size_t record_len, uint8_t *out, size_t out_len);
 
 /*
+ * The same within one program, over a struct that the caller lends: each feed alters it where it
+ * stands, and no bytes are read or written as a record. Its fields are the record's, as the machine
+ * holds them, and the same is well formed. To store it or to hand it to another program, use a
+ * record. The pointer to it is valid and aligned, never null; luffa_hash_start reads nothing from it
+ * that matters.
+ */
+struct luffa_hash {
+    size_t code;
+    uint32_t state[40];
+    uint8_t pending[32];
+    uint64_t count;
+};
+
+/*
+ * Makes the struct that of the empty message.
+ *   1 LUFFA_WIDTH   code isn't 1 to 4
+ */
+uint32_t luffa_hash_start(size_t code, struct luffa_hash *hash);
+
+/*
+ * Adds a piece to the message. An empty piece changes nothing.
+ *   3 LUFFA_RECORD  the struct isn't well formed
+ *   4 LUFFA_LONG    the bytes fed so far and piece_len together are over LUFFA_LIMIT
+ */
+uint32_t luffa_hash_feed(struct luffa_hash *hash, const uint8_t *piece, size_t piece_len);
+
+/*
+ * The digest of the bytes fed so far, in the first bytes of out. The bytes after it stay as they
+ * were, and so does the struct: it can be finished again or fed on.
+ *   3 LUFFA_RECORD  the struct isn't well formed; its code is judged here, never as 1
+ *   2 LUFFA_OUT     out_len is less than the digest's bytes at the struct's code
+ */
+uint32_t luffa_hash_finish(const struct luffa_hash *hash, uint8_t *out, size_t out_len);
+
+/*
  * A sheet is n records of 40 bytes, one after the other, n from 0 to LUFFA_SHEET_MOST. Its digest is
  * luffa_digest's of these 40n bytes.
  *

@@ -20,11 +20,17 @@ HOLDS(LUFFA_MARKS_FOR(0) == 40 && LUFFA_MARKS_FOR(3) == 40 && LUFFA_MARKS_FOR(4)
 HOLDS(LUFFA_MARKS_FOR(LUFFA_SHEET_MOST) == 10280 && LUFFA_MARKS_FOR(1 + 2) == 40);
 HOLDS(sizeof(struct luffa_sheet_answer) == 24 && offsetof(struct luffa_sheet_answer, number) == 0 &&
       offsetof(struct luffa_sheet_answer, count) == 8 && offsetof(struct luffa_sheet_answer, rounds) == 16);
+HOLDS(sizeof(struct luffa_hash) == 208 && offsetof(struct luffa_hash, code) == 0 &&
+      offsetof(struct luffa_hash, state) == 8 && offsetof(struct luffa_hash, pending) == 168 &&
+      offsetof(struct luffa_hash, count) == 200);
 
 static uint32_t (*const digest)(size_t, const uint8_t *, size_t, uint8_t *, size_t) = luffa_digest;
 static uint32_t (*const start)(size_t, uint8_t *, size_t) = luffa_start;
 static uint32_t (*const feed)(uint8_t *, size_t, const uint8_t *, size_t) = luffa_feed;
 static uint32_t (*const finish)(const uint8_t *, size_t, uint8_t *, size_t) = luffa_finish;
+static uint32_t (*const hash_start)(size_t, struct luffa_hash *) = luffa_hash_start;
+static uint32_t (*const hash_feed)(struct luffa_hash *, const uint8_t *, size_t) = luffa_hash_feed;
+static uint32_t (*const hash_finish)(const struct luffa_hash *, uint8_t *, size_t) = luffa_hash_finish;
 
 typedef struct luffa_sheet_answer answer;
 static answer (*const build)(size_t, const uint8_t *, size_t, size_t, uint32_t *, size_t, uint8_t *,
@@ -41,11 +47,14 @@ int main(void)
     uint8_t record[LUFFA_RECORD_BYTES], out[LUFFA_512_BYTES], claim[LUFFA_512_BYTES];
     uint8_t sheet[LUFFA_SHEET_RECORD_BYTES] = {0}, line[LUFFA_SHEET_RECORD_BYTES] = {1};
     uint32_t marks[LUFFA_MARKS_FOR(1)];
+    struct luffa_hash hash;
 
     return digest(LUFFA_224, NULL, 0, out, sizeof out) != LUFFA_DONE ||
            start(LUFFA_512, record, sizeof record) != LUFFA_DONE ||
            feed(record, sizeof record, NULL, 0) != LUFFA_DONE ||
            finish(record, sizeof record, out, sizeof out) != LUFFA_DONE ||
+           hash_start(LUFFA_512, &hash) != LUFFA_DONE || hash_feed(&hash, NULL, 0) != LUFFA_DONE ||
+           hash_finish(&hash, out, sizeof out) != LUFFA_DONE ||
            build(LUFFA_512, NULL, 0, 0, marks, LUFFA_MARKS_FOR(0), claim, sizeof claim).rounds != 3 ||
            append(LUFFA_512, sheet, sizeof sheet, 0, marks, LUFFA_MARKS_FOR(0), line, sizeof line, claim, sizeof claim,
                   out, sizeof out).count != 1 ||

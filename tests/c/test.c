@@ -237,6 +237,48 @@ void finish_call(uint32_t want, const uint8_t *record, size_t record_len, size_t
         memcpy(digest, o.bytes, written);
 }
 
+/* ---- The calls over a lent struct. */
+
+void hash_start_call(uint32_t want, size_t code, struct luffa_hash *hash)
+{
+    static struct lent l;
+    uint8_t *lent = lend_aligned(&l, NULL, sizeof *hash, sizeof(uint64_t));
+
+    uint32_t got = luffa_hash_start(code, (struct luffa_hash *)lent);
+    check(got == want, "start of a struct at code %zu: answered %u, wanted %u", code, got, want);
+    check(kept(&l, want == LUFFA_DONE ? sizeof *hash : 0), "start of a struct at code %zu, answer %u: wrote outside it", code,
+          got);
+    if (want == LUFFA_DONE)
+        memcpy(hash, lent, sizeof *hash);
+}
+
+void hash_feed_call(uint32_t want, struct luffa_hash *hash, const uint8_t *piece, size_t piece_len)
+{
+    static struct lent l, p;
+    uint8_t *lent = lend_aligned(&l, (const uint8_t *)hash, sizeof *hash, sizeof(uint64_t));
+    uint8_t *in = lend(&p, piece, piece_len);
+
+    uint32_t got = luffa_hash_feed((struct luffa_hash *)lent, in, piece_len);
+    check(got == want, "feed of %zu bytes to a struct at code %zu: answered %u, wanted %u", piece_len, hash->code, got, want);
+    check(kept(&l, want == LUFFA_DONE ? sizeof *hash : 0) && kept(&p, 0),
+          "feed of %zu bytes to a struct, answer %u: wrote outside it", piece_len, got);
+    memcpy(hash, lent, sizeof *hash);
+}
+
+void hash_finish_call(uint32_t want, const struct luffa_hash *hash, size_t out_len, uint8_t *digest)
+{
+    static struct lent l, o;
+    uint8_t *lent = lend_aligned(&l, (const uint8_t *)hash, sizeof *hash, sizeof(uint64_t));
+    uint8_t *out = lend(&o, NULL, out_len);
+    size_t written = want == LUFFA_DONE ? digest_bytes[hash->code] : 0;
+
+    uint32_t got = luffa_hash_finish((const struct luffa_hash *)lent, out, out_len);
+    check(got == want, "finish of a struct at code %zu into %zu: answered %u, wanted %u", hash->code, out_len, got, want);
+    check(kept(&l, 0) && kept(&o, written), "finish of a struct into %zu, answer %u: wrote outside the digest", out_len, got);
+    if (digest != NULL)
+        memcpy(digest, o.bytes, written);
+}
+
 /* ---- Sheets. */
 
 const char *const call_names[4] = {"build", "change", "append", "drop"};

@@ -43,6 +43,12 @@ void feed_call(uint32_t want, uint8_t *record, size_t record_len, const uint8_t 
 /* Where done, `digest` gets the digest; it may be null. */
 void finish_call(uint32_t want, const uint8_t *record, size_t record_len, size_t out_len, uint8_t *digest);
 
+/* The calls over a struct, which is lent as a copy and got back. Where done, the digest is written to
+   `digest`; it may be null. */
+void hash_start_call(uint32_t want, size_t code, struct luffa_hash *hash);
+void hash_feed_call(uint32_t want, struct luffa_hash *hash, const uint8_t *piece, size_t piece_len);
+void hash_finish_call(uint32_t want, const struct luffa_hash *hash, size_t out_len, uint8_t *digest);
+
 /* ---- Sheets. */
 
 enum call { BUILD, CHANGE, APPEND, DROP };

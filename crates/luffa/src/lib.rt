@@ -2,8 +2,10 @@
 // them; a slice is a pointer and then a length.
 ghost use mathlib.Core.Path.{_≡_};
 ghost use Rattle.definition.specs.Calls.{digestOutcome, startOutcome, feedOutcome, finishOutcome};
+ghost use Rattle.definition.specs.Lent.{lentStartOutcome, lentFeedOutcome, lentFinishOutcome};
 ghost use Rattle.definition.specs.SheetCalls.{buildOutcome, changeOutcome, appendOutcome, dropOutcome};
 use definition::Answer;
+use definition::Kept;
 
 // The digest of a message in one call.
 #[no_mangle]
@@ -35,6 +37,30 @@ pub extern "C" fn luffa_finish(record: &[u8], out: &mut [u8]) -> u32
     ensures { λ r. ⌜ record { number = r; buffer = now (out .exit) } ≡ finishOutcome (now («record» .entry)) (now (out .entry)) ⌝ }
 {
     hash::finish(record, out)
+}
+
+// A fresh working state at a code, in a struct that the caller lends.
+#[no_mangle]
+pub extern "C" fn luffa_hash_start(code: usize, hash: &mut Kept) -> u32
+    ensures { λ r. ⌜ record { number = r; kept = now (hash .exit) } ≡ lentStartOutcome code (now (hash .entry)) ⌝ }
+{
+    hash::lent::start(code, hash)
+}
+
+// A piece fed to a working state, which is altered where it stands.
+#[no_mangle]
+pub extern "C" fn luffa_hash_feed(hash: &mut Kept, piece: &[u8]) -> u32
+    ensures { λ r. ⌜ record { number = r; kept = now (hash .exit) } ≡ lentFeedOutcome (now (hash .entry)) (now (piece .entry)) ⌝ }
+{
+    hash::lent::feed(hash, piece)
+}
+
+// The digest of what a working state was fed.
+#[no_mangle]
+pub extern "C" fn luffa_hash_finish(hash: &Kept, out: &mut [u8]) -> u32
+    ensures { λ r. ⌜ record { number = r; buffer = now (out .exit) } ≡ lentFinishOutcome (now (hash .entry)) (now (out .entry)) ⌝ }
+{
+    hash::lent::finish(hash, out)
 }
 
 // All marks of a sheet, and its digest.

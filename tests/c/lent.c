@@ -1,0 +1,169 @@
+/* The calls over a lent struct beside those over a record's bytes: the same numbers, the same
+   digests, and after each call the struct holds what the record holds. A struct that isn't well
+   formed is refused 3, also with a code that no record can have. */
+#include "test.h"
+
+static uint8_t message[300];
+
+static struct luffa_hash in_struct(const uint8_t *record)
+{
+    struct luffa_hash hash = {.code = record[0], .count = count_of(record)};
+
+    for (size_t i = 0; i < 40; i++)
+        for (size_t j = 0; j < 4; j++)
+            hash.state[i] = hash.state[i] << 8 | record[STATE + 4 * i + j];
+    memcpy(hash.pending, record + PENDING, sizeof hash.pending);
+    return hash;
+}
+
+/* A record and the struct with what it holds, all calls made over both. */
+struct pair {
+    uint8_t record[LUFFA_RECORD_BYTES];
+    struct luffa_hash hash;
+};
+
+static void same(const struct pair *p, const char *after)
+{
+    struct luffa_hash hash = in_struct(p->record);
+
+    check(memcmp(&hash, &p->hash, sizeof hash) == 0, "code %zu, after %s: struct and record differ", p->hash.code,
+          after);
+}
+
+static void started(struct pair *p, size_t code)
+{
+    start_call(LUFFA_DONE, code, sizeof p->record, p->record);
+    hash_start_call(LUFFA_DONE, code, &p->hash);
+    same(p, "start");
+}
+
+static void fed(uint32_t want, struct pair *p, size_t at, size_t n)
+{
+    feed_call(want, p->record, sizeof p->record, message + at, n);
+    hash_feed_call(want, &p->hash, message + at, n);
+    same(p, "feed");
+}
+
+static void finished(const struct pair *p)
+{
+    uint8_t digest[LUFFA_512_BYTES], other[LUFFA_512_BYTES];
+    size_t n = digest_bytes[p->hash.code];
+
+    for (size_t room = n; room <= n + 3; room++) {
+        finish_call(LUFFA_DONE, p->record, sizeof p->record, room, digest);
+        hash_finish_call(LUFFA_DONE, &p->hash, room, other);
+        check(memcmp(digest, other, n) == 0, "code %zu: struct and record have two digests", p->hash.code);
+    }
+    for (size_t room = 0; room < n; room++)
+        hash_finish_call(LUFFA_OUT, &p->hash, room, NULL);
+}
+
+/* Every length up to 100 bytes in every two pieces: the digest of the whole. */
+static void cuts(size_t code)
+{
+    uint8_t digest[LUFFA_512_BYTES], got[LUFFA_512_BYTES];
+    struct pair p;
+
+    for (size_t n = 0; n <= 100; n++) {
+        digest_call(LUFFA_DONE, code, message, n, digest_bytes[code], digest);
+        for (size_t cut = 0; cut <= n; cut++) {
+            started(&p, code);
+            fed(LUFFA_DONE, &p, 0, cut);
+            fed(LUFFA_DONE, &p, cut, n - cut);
+            hash_finish_call(LUFFA_DONE, &p.hash, digest_bytes[code], got);
+            check(memcmp(got, digest, digest_bytes[code]) == 0, "%zu bytes at code %zu cut at %zu", n, code, cut);
+        }
+    }
+}
+
+/* A well-formed record of any state and this count, as a struct. */
+static void any(struct pair *p, size_t code, uint64_t count)
+{
+    any_record(p->record, code, count);
+    p->hash = in_struct(p->record);
+}
+
+static void any_state(size_t code)
+{
+    struct pair p;
+
+    for (uint64_t count = 0; count < 64; count++) {
+        any(&p, code, count);
+        finished(&p);
+        for (size_t n = 0; n <= 100; n += 1 + n / 8)
+            fed(LUFFA_DONE, &p, n, n);
+        finished(&p);
+    }
+}
+
+static void limit(size_t code)
+{
+    struct pair p;
+
+    for (uint64_t left = 0; left <= 70; left++) {
+        any(&p, code, LUFFA_LIMIT - left);
+        fed(LUFFA_LONG, &p, 0, left + 1);
+        fed(LUFFA_LONG, &p, 0, sizeof message);
+        fed(LUFFA_DONE, &p, 0, 0);
+        fed(LUFFA_DONE, &p, 0, left);
+        fed(LUFFA_LONG, &p, 0, 1);
+        finished(&p);
+    }
+}
+
+static void refused(struct luffa_hash hash)
+{
+    hash_feed_call(LUFFA_RECORD, &hash, message, 0);
+    hash_feed_call(LUFFA_RECORD, &hash, message, 1);
+    hash_feed_call(LUFFA_RECORD, &hash, message, sizeof message);
+    hash_finish_call(LUFFA_RECORD, &hash, 0, NULL);
+    hash_finish_call(LUFFA_RECORD, &hash, LUFFA_512_BYTES, NULL);
+}
+
+/* What is well formed with one thing in it changed. */
+static void malformed(size_t code, uint64_t count)
+{
+    static const size_t unknown[] = {0, 5, 6, 255, 256, 257, 258, 259, 260, 65537, (size_t)1 << 32 | 2, SIZE_MAX};
+    struct luffa_hash hash;
+    struct pair p;
+
+    any(&p, code, count);
+    for (size_t i = 0; i < sizeof unknown / sizeof *unknown; i++) {
+        hash = p.hash;
+        hash.code = unknown[i];
+        refused(hash);
+        hash_start_call(LUFFA_WIDTH, unknown[i], &hash);
+    }
+    for (size_t i = state_bytes[code] / 4; i < 40; i++)
+        for (int bit = 0; bit < 32; bit++) {
+            hash = p.hash;
+            hash.state[i] = UINT32_C(1) << bit;
+            refused(hash);
+        }
+    for (size_t i = count % 32; i < 32; i++)
+        for (int bit = 0; bit < 8; bit++) {
+            hash = p.hash;
+            hash.pending[i] = (uint8_t)(1 << bit);
+            refused(hash);
+        }
+    for (int bit = 61; bit < 64; bit++) {
+        hash = p.hash;
+        hash.count |= UINT64_C(1) << bit;
+        refused(hash);
+    }
+    fed(LUFFA_DONE, &p, 0, 40);
+    finished(&p);
+}
+
+int main(void)
+{
+    fill(message, sizeof message);
+    for (size_t code = 1; code <= 4; code++) {
+        cuts(code);
+        any_state(code);
+        limit(code);
+        for (uint64_t count = 0; count < 33; count += 8)
+            malformed(code, count);
+    }
+    return 0;
+}
