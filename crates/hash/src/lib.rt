@@ -79,21 +79,5 @@ pub fn finish(record: &[u8], out: &mut [u8]) -> u32
     if !record::well_formed(record) {
         return RECORD;
     }
-    let k = record::decode(record);
-    let code = k.code;
-    let words = rounds::codes::words(code);
-    if out.len() < 4 * words {
-        return OUT;
-    }
-    let w = rounds::codes::width(code);
-    let s = k.state;
-    let c = Counted {
-        state: s,
-        rounds: 0,
-    };
-    let p = k.pending;
-    let pos = (k.count % 32) as usize;
-    let d = rounds::last::absorb_last(w, c, &p[..pos]);
-    rounds::squeeze::squeeze(w, d, words, out);
-    DONE
+    lent::finished_answer(record::decode(record), out)
 }
