@@ -18,14 +18,15 @@ enum { SHEET_RECORD = LUFFA_SHEET_RECORD_BYTES, SHEET_MOST = LUFFA_SHEET_MOST, M
 
 static const size_t DIGEST_BYTES[CODES + 1] = {0, LUFFA_224_BYTES, LUFFA_256_BYTES, LUFFA_384_BYTES, LUFFA_512_BYTES};
 
-/* What a measured thing is given: a code, a message, room for the digest and a record; for a sheet call, the sheet whose records are the
-   message. */
+/* What a measured thing is given: a code, a message, room for the digest, a record and a struct in its place; for a sheet call, the sheet
+   whose records are the message. */
 struct job {
     size_t code;
     const uint8_t *message;
     size_t len;
     uint8_t out[MOST_DIGEST_BYTES];
     uint8_t record[LUFFA_RECORD_BYTES];
+    struct luffa_hash hash;
     struct sheet *sheet;
 };
 
@@ -37,12 +38,13 @@ struct sheet {
     uint8_t digest[MOST_DIGEST_BYTES], without_last[MOST_DIGEST_BYTES];
 };
 
-/* A job with its room filled and its record started. */
+/* A job with its room filled, its record and its struct started. */
 static struct job job_of(size_t code, const uint8_t *message, size_t len)
 {
     struct job job = {.code = code, .message = message, .len = len};
     memset(job.out, FILL, sizeof job.out);
     luffa_start(code, job.record, sizeof job.record);
+    luffa_hash_start(code, &job.hash);
     return job;
 }
 
@@ -65,6 +67,11 @@ static uint32_t archive_start(struct job *job) { return luffa_start(job->code, j
 static uint32_t archive_feed(struct job *job) { return luffa_feed(job->record, sizeof job->record, job->message, job->len); }
 
 static uint32_t archive_finish(struct job *job) { return luffa_finish(job->record, sizeof job->record, job->out, sizeof job->out); }
+
+/* The same over the struct. */
+static uint32_t archive_hash_start(struct job *job) { return luffa_hash_start(job->code, &job->hash); }
+static uint32_t archive_hash_feed(struct job *job) { return luffa_hash_feed(&job->hash, job->message, job->len); }
+static uint32_t archive_hash_finish(struct job *job) { return luffa_hash_finish(&job->hash, job->out, sizeof job->out); }
 
 /* Start, the message in pieces of this size, finish. */
 static inline uint32_t in_pieces(struct job *job, size_t size)
@@ -518,6 +525,9 @@ static int stacks(const uint8_t *message)
         {"luffa_start", archive_start},
         {"luffa_feed", archive_feed},
         {"luffa_finish", archive_finish},
+        {"luffa_hash_start", archive_hash_start},
+        {"luffa_hash_feed", archive_hash_feed},
+        {"luffa_hash_finish", archive_hash_finish},
     }, SHEET_CALLS[] = {
         {"luffa_sheet_build", archive_build},
         {"luffa_sheet_change", archive_change_middle},
@@ -537,6 +547,7 @@ static int stacks(const uint8_t *message)
                 for (size_t n = 0; n < COUNT(LENGTHS); n++) {
                     struct job job = job_of(code, message, HELD[k]);
                     archive_feed(&job);
+                    archive_hash_feed(&job);
                     job.len = LENGTHS[n];
                     size_t own = own_stack(CALLS[i].run, &job);
                     most = own > most ? own : most;
