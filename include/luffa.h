@@ -3,7 +3,7 @@
  * piece by piece, and a sheet of records that is saved under its digest.
  *
  * Every call answers a number: LUFFA_DONE, or the first refusal that holds, in the order listed at
- * the call. A refused call has written nothing, so look at the answer before you use a buffer. The
+ * the call. A refused call has altered nothing, so look at the answer before you use a buffer. The
  * calls allocate nothing and keep nothing; any number of threads may make them at once.
  *
  * The caller's duties, which no call can judge:
