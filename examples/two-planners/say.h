@@ -1,0 +1,43 @@
+/* What the workstation says, and the statuses that it ends with. */
+#ifndef SAY_H
+#define SAY_H
+
+#include <stddef.h>
+#include <stdint.h>
+
+/* Besides 0 and the numbers 1 to 11 of luffa.h. */
+enum status {
+    USAGE = 64,   /* the command line can't be understood */
+    DAMAGED = 65, /* the sheet or its log is damaged, and isn't used */
+    EXISTS = 73,  /* there is such a sheet already */
+    FAILED = 74,  /* the system refused something: nothing was saved */
+    UNSURE = 75   /* saved, but the system didn't confirm it or the answer couldn't be printed */
+};
+
+/* What a message ends with: for a save, that nothing was saved. */
+extern const char *closing;
+
+/* Prints a message and ends. With it ends the hold on the lock. */
+#if defined(__GNUC__)
+__attribute__((noreturn, format(printf, 2, 3)))
+#endif
+void stop(int status, const char *words, ...);
+
+/* The same, with what the system says about errno. */
+#if defined(__GNUC__)
+__attribute__((noreturn))
+#endif
+void stop_failed(int status, const char *doing, const char *name);
+
+/* The sentence of an answer of luffa.h. */
+const char *sentence(uint64_t answer);
+
+void print_digest(const uint8_t *digest, size_t n);
+
+/* Prints a text up to the zeros that fill it up. What could upset a terminal is printed as \x and two digits. */
+void print_text(const uint8_t *text, size_t n);
+
+/* Ends after a command that was done: with 0, or with `status` where its answer couldn't be printed. */
+int printed(int status);
+
+#endif

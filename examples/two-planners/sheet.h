@@ -1,0 +1,48 @@
+/* A sheet as the workstation holds it, and the bytes that stand for it in a file. */
+#ifndef SHEET_H
+#define SHEET_H
+
+#include <luffa.h>
+
+#define RECORD LUFFA_SHEET_RECORD_BYTES
+#define DIGEST_MOST LUFFA_512_BYTES
+#define MARKS_MOST LUFFA_MARKS_FOR(LUFFA_SHEET_MOST)
+
+struct sheet {
+    size_t code, n;
+    uint64_t saves;              /* the saves that were accepted since the sheet was new */
+    uint8_t digest[DIGEST_MOST]; /* zero behind the digest */
+    uint8_t records[RECORD * LUFFA_SHEET_MOST];
+    uint32_t marks[MARKS_MOST];
+};
+
+/*
+ * The file, every number high byte first, so that it is the same on every machine:
+ *   bytes 0 to 7      "LufSheet"
+ *   bytes 8 to 11     the version of this form, 1
+ *   bytes 12 to 15    the code
+ *   bytes 16 to 19    n, the number of records
+ *   bytes 20 to 23    zero
+ *   bytes 24 to 31    the saves accepted so far
+ *   bytes 32 to 95    the digest of the sheet, then zeros
+ *   bytes 96 to 127   the seal: the 256-bit digest of bytes 0 to 95
+ *   then              the records, 40 bytes each, and the marks, 40 words each
+ * and nothing after them.
+ */
+#define HEAD 128
+#define SEALED 96
+#define FILE_MOST (HEAD + RECORD * LUFFA_SHEET_MOST + 4 * MARKS_MOST)
+
+/* The bytes of a digest at a code of 1 to 4. */
+size_t digest_bytes(size_t code);
+
+void put_number(uint8_t *bytes, size_t n, uint64_t number);
+uint64_t get_number(const uint8_t *bytes, size_t n);
+
+/* Writes the file of a sheet, at most FILE_MOST bytes, and gives their number. */
+size_t sheet_to_bytes(const struct sheet *sheet, uint8_t *bytes);
+
+/* Reads a file. Gives null, or says what is wrong with it; then the sheet isn't to be used. */
+const char *sheet_from_bytes(struct sheet *sheet, const uint8_t *bytes, size_t len);
+
+#endif

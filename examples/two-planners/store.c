@@ -1,0 +1,170 @@
+/* The functions of store.h. */
+#define _XOPEN_SOURCE 700 /* realpath */
+#include "store.h"
+#include "say.h"
+#include <dirent.h>
+#include <errno.h>
+#include <fcntl.h>
+#include <stdio.h>
+#include <stdlib.h>
+#include <string.h>
+#include <sys/stat.h>
+#include <unistd.h>
+
+ssize_t read_all(int fd, uint8_t *bytes, size_t n)
+{
+    size_t done = 0;
+
+    while (done < n) {
+        ssize_t got = read(fd, bytes + done, n - done);
+        if (got == 0)
+            break;
+        if (got < 0 && errno == EINTR)
+            continue;
+        if (got < 0)
+            return -1;
+        done += (size_t)got;
+    }
+    return (ssize_t)done;
+}
+
+int write_all(int fd, const uint8_t *bytes, size_t n)
+{
+    while (n > 0) {
+        ssize_t put = write(fd, bytes, n);
+        if (put < 0 && errno == EINTR)
+            continue;
+        if (put < 0)
+            return -1;
+        bytes += put;
+        n -= (size_t)put;
+    }
+    return 0;
+}
+
+/* Splits a path into directory and name. Names that could be taken for one of the files beside another sheet are
+   refused: a log would be written over, or a sheet cleaned away. */
+static void find(struct store *store, char *path, const char *file)
+{
+    char *slash = strrchr(path, '/'), *name = slash ? slash + 1 : path;
+    const char *directory = slash == path ? "/" : slash ? path : ".";
+    size_t len = strlen(name);
+
+    if (len == 0 || strchr(name, '~') || (len > 4 && strcmp(name + len - 4, ".log") == 0) ||
+        (len > 5 && strcmp(name + len - 5, ".lock") == 0))
+        stop(USAGE, "%s: a sheet's name can't be empty, end in .log or .lock, or have a ~ in it.", file);
+    if (len + 24 > NAME_MAX)
+        stop(USAGE, "%s: the name is too long.", file);
+    snprintf(store->name, sizeof store->name, "%s", name);
+    snprintf(store->lock_name, sizeof store->lock_name, "%.*s.lock", NAME_MAX - 24, name);
+    snprintf(store->log_name, sizeof store->log_name, "%.*s.log", NAME_MAX - 24, name);
+    snprintf(store->new_name, sizeof store->new_name, "%.*s~%ld", NAME_MAX - 24, name, (long)getpid());
+    if (slash)
+        *slash = 0;
+    store->lock = -1;
+    store->mode = 0;
+    store->directory = open(directory, O_RDONLY | O_DIRECTORY);
+    if (store->directory < 0)
+        stop_failed(FAILED, "Can't open the folder of", file);
+}
+
+/* A sheet may be reached through symbolic links: then the lock and the log are those beside the sheet itself, so that
+   everybody holds the same ones. */
+void store_find(struct store *store, const char *file)
+{
+    char *path = realpath(file, NULL);
+
+    if (!path)
+        stop_failed(FAILED, "Can't find", file);
+    find(store, path, file);
+    free(path);
+}
+
+void store_find_new(struct store *store, const char *file)
+{
+    char *path = strdup(file);
+
+    if (!path)
+        stop_failed(FAILED, "Can't find", file);
+    find(store, path, file);
+    free(path);
+}
+
+/* The lock is a file of its own, as the sheet's file is another one after each save: a lock on that would be lost by
+   the rename. It is never removed, as one who waits for it would then hold a lock that nobody else sees. The system
+   lets go of it when its holder ends, however that happens. */
+void store_lock(struct store *store)
+{
+    struct flock whole = {.l_type = F_WRLCK, .l_whence = SEEK_SET};
+
+    store->lock = openat(store->directory, store->lock_name, O_RDWR | O_CREAT, 0666);
+    if (store->lock < 0)
+        stop_failed(FAILED, "Can't open", store->lock_name);
+    while (fcntl(store->lock, F_SETLKW, &whole) != 0)
+        if (errno != EINTR)
+            stop_failed(FAILED, "Can't lock", store->lock_name);
+}
+
+void store_read(struct store *store, struct sheet *sheet)
+{
+    static uint8_t bytes[FILE_MOST + 1];
+    int fd = openat(store->directory, store->name, O_RDONLY);
+    struct stat about;
+    const char *wrong;
+    ssize_t len;
+
+    if (fd < 0 || fstat(fd, &about) != 0)
+        stop_failed(FAILED, "Can't open", store->name);
+    /* A second name would go on naming the old file after a save, and have a lock of its own. */
+    if (S_ISREG(about.st_mode) && about.st_nlink > 1)
+        stop(DAMAGED, "%s isn't used: the same file has another name (a hard link), and its saves would part.", store->name);
+    store->mode = about.st_mode & 0777;
+    /* One byte more than the longest sheet, so that a longer file is seen to be one. */
+    len = read_all(fd, bytes, sizeof bytes);
+    if (len < 0)
+        stop_failed(FAILED, "Can't read", store->name);
+    close(fd);
+    wrong = sheet_from_bytes(sheet, bytes, (size_t)len);
+    if (wrong)
+        stop(DAMAGED, "%s is damaged and isn't used: %s.", store->name, wrong);
+}
+
+/* Only the holder of the lock writes such a file, and it has written none yet: those that are there are leftovers. */
+void store_clean(const struct store *store)
+{
+    size_t len = strlen(store->name);
+    int fd = openat(store->directory, ".", O_RDONLY | O_DIRECTORY);
+    DIR *all = fd < 0 ? NULL : fdopendir(fd);
+    struct dirent *one;
+
+    if (!all)
+        stop_failed(FAILED, "Can't list the folder of", store->name);
+    while ((one = readdir(all)) != NULL) {
+        const char *number = one->d_name + len + 1;
+        if (strncmp(one->d_name, store->name, len) == 0 && one->d_name[len] == '~' && *number &&
+            number[strspn(number, "0123456789")] == 0)
+            unlinkat(store->directory, one->d_name, 0);
+    }
+    closedir(all);
+}
+
+/* The new sheet is on the disk before it takes the old one's name, and its name before anybody is told. */
+void store_replace(struct store *store, const struct sheet *sheet)
+{
+    static uint8_t bytes[FILE_MOST];
+    size_t len = sheet_to_bytes(sheet, bytes);
+    int fd = openat(store->directory, store->new_name, O_WRONLY | O_CREAT | O_EXCL, 0666);
+
+    if (fd < 0)
+        stop_failed(FAILED, "Can't make", store->new_name);
+    if ((store->mode && fchmod(fd, store->mode) != 0) || write_all(fd, bytes, len) != 0 || fsync(fd) != 0 || close(fd) != 0 ||
+        renameat(store->directory, store->new_name, store->directory, store->name) != 0) {
+        int error = errno;
+        unlinkat(store->directory, store->new_name, 0);
+        errno = error;
+        stop_failed(FAILED, "Can't write", store->name);
+    }
+    closing = "";
+    if (fsync(store->directory) != 0)
+        stop_failed(UNSURE, "Saved, but it may not outlast a loss of power, as the system didn't confirm it:", store->name);
+}
