@@ -204,8 +204,8 @@ static int print_log(const char *file)
     return printed(FAILED);
 }
 
-/* Reading has compared the marks with those of a build already; here every save is made again from the empty sheet, each
-   with the digest that it carried, and must lead to the sheet that is held. */
+/* Reading has compared the marks with those of a build already. Here every save is made again from the empty sheet on,
+   each with the digest that it carried, and must lead to the sheet that is held. */
 static int verify(const char *file)
 {
     static struct sheet again;
@@ -245,8 +245,8 @@ int main(int argc, char **argv)
     static const struct {
         const char *name, *option;
         int arguments;
-    } commands[] = {{"new", "--code", 1},  {"open", NULL, 1},   {"change", "--as", 4}, {"append", "--as", 3},
-                    {"drop", "--as", 2}, {"log", NULL, 1}, {"verify", NULL, 1}};
+    } commands[] = {{"new", "--code", 1}, {"open", NULL, 1}, {"change", "--as", 4}, {"append", "--as", 3},
+                    {"drop", "--as", 2},  {"log", NULL, 1},  {"verify", NULL, 1}};
     size_t which = 0;
 
     /* A reader of our answer that has gone away is seen where we print, and no reason to die in between. */
@@ -259,7 +259,8 @@ int main(int argc, char **argv)
         value = argv[argc - 1];
         argc -= 2;
     }
-    if (which == 7 || argc != commands[which].arguments + 2 || (option && strcmp(option, commands[which].option) != 0)) {
+    if (which == 7 || argc != commands[which].arguments + 2 ||
+        (option && strcmp(option, commands[which].option) != 0)) {
         fputs(usage, stderr);
         return USAGE;
     }

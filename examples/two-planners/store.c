@@ -117,7 +117,8 @@ void store_read(struct store *store, struct sheet *sheet)
         stop_failed(FAILED, "Can't open", store->name);
     /* A second name would go on naming the old file after a save, and have a lock of its own. */
     if (S_ISREG(about.st_mode) && about.st_nlink > 1)
-        stop(DAMAGED, "%s isn't used: the same file has another name (a hard link), and its saves would part.", store->name);
+        stop(DAMAGED, "%s isn't used: the same file has another name (a hard link), and its saves would part.",
+             store->name);
     store->mode = about.st_mode & 0777;
     /* One byte more than the longest sheet, so that a longer file is seen to be one. */
     len = read_all(fd, bytes, sizeof bytes);
@@ -157,7 +158,8 @@ void store_replace(struct store *store, const struct sheet *sheet)
 
     if (fd < 0)
         stop_failed(FAILED, "Can't make", store->new_name);
-    if ((store->mode && fchmod(fd, store->mode) != 0) || write_all(fd, bytes, len) != 0 || fsync(fd) != 0 || close(fd) != 0 ||
+    if ((store->mode && fchmod(fd, store->mode) != 0) || write_all(fd, bytes, len) != 0 || fsync(fd) != 0 ||
+        close(fd) != 0 ||
         renameat(store->directory, store->new_name, store->directory, store->name) != 0) {
         int error = errno;
         unlinkat(store->directory, store->new_name, 0);
@@ -166,5 +168,6 @@ void store_replace(struct store *store, const struct sheet *sheet)
     }
     closing = "";
     if (fsync(store->directory) != 0)
-        stop_failed(UNSURE, "Saved, but it may not outlast a loss of power, as the system didn't confirm it:", store->name);
+        stop_failed(UNSURE, "Saved, but it may not outlast a loss of power, as the system didn't confirm it:",
+                    store->name);
 }

@@ -1,4 +1,4 @@
-/* Files of sheets: a whole one is read as it was written, and none that was cut off, lengthened or altered in any bit is
+/* Files of sheets: a whole one is read as it was written, and none that was cut off, lengthened or altered in a bit is
    read at all. `damage full FILE CODE` writes a full sheet instead. */
 #include "../../examples/two-planners/sheet.h"
 #include <stdio.h>

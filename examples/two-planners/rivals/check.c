@@ -17,6 +17,16 @@ enum { HEAD = 128, ENTRY = 200 };
 static uint8_t list[LUFFA_SHEET_MOST + 1][RECORD];
 static size_t n;
 
+/* The accepted saves in their order: the attempt of each, and the digests before the first and after each. */
+static const struct attempt **order;
+static uint8_t (*digests)[DIGEST_MOST];
+static size_t accepted;
+
+/* The two files, and for each attempt how often it was accepted. All this is kept until the program ends. */
+static uint8_t *sheet, *save_log;
+static size_t sheet_len, log_len;
+static char *seen[RIVALS_MOST + 1];
+
 static int wrong(const char *words, ...)
 {
     va_list arguments;
@@ -81,18 +91,18 @@ static int apply(int operation, size_t place, const uint8_t *record)
 }
 
 /* The final sheet: the list's records, its digest, and the marks that a build gives. */
-static int check_sheet(const uint8_t *sheet, size_t len, size_t code, const uint8_t *digest)
+static int check_sheet(size_t code)
 {
     static uint32_t marks[LUFFA_MARKS_FOR(LUFFA_SHEET_MOST)];
     uint8_t built[DIGEST_MOST] = {0};
     const uint8_t *at = sheet + HEAD;
 
     if (number(sheet + 12, 4) != code || number(sheet + 16, 4) != n ||
-        len != HEAD + RECORD * n + 4 * LUFFA_MARKS_FOR(n))
+        sheet_len != HEAD + RECORD * n + 4 * LUFFA_MARKS_FOR(n))
         return wrong("the sheet has another code, count or length than the accepted saves give");
     if (memcmp(at, list, RECORD * n) != 0)
         return wrong("the records aren't those that the accepted saves give");
-    if (memcmp(sheet + 32, digest, DIGEST_MOST) != 0)
+    if (memcmp(sheet + 32, digests[accepted], DIGEST_MOST) != 0)
         return wrong("the digest isn't that of the records");
     luffa_sheet_build(code, list[0], sizeof list, n, marks, sizeof marks / 4, built, sizeof built);
     at += RECORD * n;
@@ -101,11 +111,6 @@ static int check_sheet(const uint8_t *sheet, size_t len, size_t code, const uint
             return wrong("mark %zu isn't that of the records", i / LUFFA_MARK_WORDS);
     return 0;
 }
-
-/* The accepted saves in their order: the attempt of each, and the digests before the first and after each. */
-static const struct attempt **order;
-static uint8_t (*digests)[DIGEST_MOST];
-static size_t accepted;
 
 /* Whether the sheet could have had this digest between two times, or, with `other`, another than this. It had those
    after every save that was certainly accepted before, up to those that had certainly been begun. */
@@ -126,12 +131,12 @@ static int could_have(const uint8_t *digest, int other, int64_t from, int64_t to
 }
 
 /* Folds the log's accepted saves over the list, and ties each to the one attempt that made it. */
-static int fold(const uint8_t *log, size_t code, const struct shared *shared, int rivals, char **seen)
+static int fold(size_t code, const struct shared *shared, int rivals)
 {
     int64_t latest = 0;
 
     for (size_t i = 0; i < accepted; i++) {
-        const uint8_t *entry = log + ENTRY * i;
+        const uint8_t *entry = save_log + ENTRY * i;
         char who[25] = "";
         const struct attempt *a;
         int r;
@@ -166,7 +171,7 @@ static int fold(const uint8_t *log, size_t code, const struct shared *shared, in
 }
 
 /* Every attempt against what the fold has seen. */
-static int account(const struct shared *shared, int rivals, char **seen, long *counts)
+static int account(const struct shared *shared, int rivals, long *counts)
 {
     for (int r = 0; r <= rivals; r++)
         for (long k = 0; k < shared->rivals[r].attempts; k++) {
@@ -188,12 +193,11 @@ static int account(const struct shared *shared, int rivals, char **seen, long *c
 
 int check(const char *file, size_t code, const struct shared *shared, int rivals, double seconds)
 {
-    size_t sheet_len, log_len;
-    uint8_t *sheet = whole(file, "", &sheet_len), *log = whole(file, ".log", &log_len);
-    char *seen[RIVALS_MOST + 1];
     long counts[14] = {0}, outside = 0, inside = 0;
 
-    if (!sheet || !log || sheet_len < HEAD)
+    sheet = whole(file, "", &sheet_len);
+    save_log = whole(file, ".log", &log_len);
+    if (!sheet || !save_log || sheet_len < HEAD)
         return wrong("the sheet or its log is gone");
     accepted = number(sheet + 24, 8);
     if (log_len / ENTRY < accepted)
@@ -204,12 +208,13 @@ int check(const char *file, size_t code, const struct shared *shared, int rivals
         exit(2);
     for (int r = 0; r <= rivals; r++) {
         seen[r] = calloc((size_t)shared->rivals[r].attempts + 1, 1);
+        if (!seen[r])
+            exit(2);
         outside += shared->rivals[r].outside;
         inside += shared->rivals[r].inside;
     }
     list_digest(code, digests[0]);
-    if (fold(log, code, shared, rivals, seen) || check_sheet(sheet, sheet_len, code, digests[accepted]) ||
-        account(shared, rivals, seen, counts))
+    if (fold(code, shared, rivals) || check_sheet(code) || account(shared, rivals, counts))
         return 1;
     if (counts[LUFFA_DONE] + counts[12] != (long)accepted)
         return wrong("%ld saves were told and %ld killed ones were made, but %zu accepted", counts[0], counts[12],

@@ -125,7 +125,7 @@ static int attempt(int r, int operation, int deadly, int64_t *duration)
     long saves;
 
     if (me->attempts == room)
-        return failed(r, "the notes are full", 0, ""), -200;
+        return failed(r, "more attempts than the saves can explain", 0, ""), -200;
     a->opening = now();
     status = run(opening, NULL, -1, said, sizeof said);
     a->opened = now();
@@ -267,12 +267,13 @@ int main(int argc, char **argv)
     if (bad)
         return 1;
 
-    /* One more save, undisturbed, clears away what the killed have left; then the workstation's own opinion. */
+    /* One more save, undisturbed, clears away what the killed have left. The workstation's own opinion comes last. */
     state = seed + 1;
     char *verifying[] = {planners, "verify", file, NULL};
     if ((status = attempt(rivals, APPEND, 0, &duration)) != LUFFA_DONE && status != LUFFA_FULL)
         return failed(rivals, "the last save", status, "");
-    if ((status = run(verifying, NULL, -1, said, sizeof said)) != 0)
-        return failed(rivals, "verify", status, said);
-    return leftovers(argv[2]) || check(file, code, shared, rivals, seconds);
+    if (check(file, code, shared, rivals, seconds) || leftovers(argv[2]))
+        return 1;
+    status = run(verifying, NULL, -1, said, sizeof said);
+    return status == 0 ? 0 : failed(rivals, "verify", status, said);
 }
