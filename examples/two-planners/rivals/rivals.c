@@ -105,7 +105,10 @@ static int told_digest(const char *said, uint8_t out[DIGEST_MOST], char *digits)
 static int failed(int r, const char *doing, int status, const char *said)
 {
     if (atomic_fetch_add(&shared->failed, 1) == 0) {
-        printf("trial: VIOLATED: r%d: %s ended with %d and said: %.300s\n", r, doing, status, said);
+        printf("trial: VIOLATED: r%d: %s", r, doing);
+        if (said)
+            printf(" ended with %d and said: %.300s", status, said);
+        putchar('\n');
         fflush(stdout);
     }
     return 1;
@@ -125,7 +128,7 @@ static int attempt(int r, int operation, int deadly, int64_t *duration)
     long saves;
 
     if (me->attempts == room)
-        return failed(r, "more attempts than the saves can explain", 0, ""), -200;
+        return failed(r, "turned away more often than the saves can explain", 0, NULL), -200;
     a->opening = now();
     status = run(opening, NULL, -1, said, sizeof said);
     a->opened = now();
