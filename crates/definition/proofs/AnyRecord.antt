@@ -2,14 +2,13 @@
 -- pieces in turn are taken as their concatenation is.
 -- Assumes nothing.
 use mathlib.Core.Path.{_≡_, sym, ap, _∙_}
-use mathlib.Core.Bool.{Bool, true, _&&_}
+use mathlib.Core.Bool.{true}
 use mathlib.Core.List.{List, [], _++_}
 use Prim.Native.Nat.{ℕ, zero, suc, _+_, _%_, _^_, _<_, _≤_}
 use native.Mathlib.Omega.{arith}
-use lib.Dec.{eqb}
-use lib.ListN.{length, getD, take, drop, length-append, length-drop}
+use lib.ListN.{length, getD, take, drop, length-append}
 use lib.Seq.{length-take-le}
-use borrow.Author.Tests.{eqb-true, eq-eqb, le-leb, lt-ltb, le-ltb}
+use borrow.Author.Tests.{eq-eqb, le-leb, lt-ltb, le-ltb}
 use Rattle.definition.specs.declared.Block.{Block}
 use Rattle.definition.specs.declared.Kept.{Kept}
 use Rattle.definition.specs.declared.Width.{Width}
@@ -19,31 +18,15 @@ use Rattle.definition.specs.State.{five, blocksIn}
 use Rattle.definition.specs.Start.{blockCount}
 use Rattle.definition.specs.Luffa.{widthAt}
 use Rattle.definition.specs.Refusal.{LONG, pick, firstOf}
-use Rattle.definition.specs.Record.{recordLength, limit, encode, blockIn, decode, allZero, pendingCount, pendingBytes, wellKept, wellFormed, fed}
+use Rattle.definition.specs.Record.{recordLength, limit, encode, blockIn, decode, pendingCount, pendingBytes, wellKept, wellFormed, fed}
 use Rattle.definition.specs.Calls.{longRefusal, recordRefusal, feedRefusals, feedOutcome}
 use Rattle.definition.proofs.Chain.{length-blocksIn}
 use Rattle.definition.proofs.Refusals.{refused, accepted}
-use Rattle.definition.proofs.Feeding.{both-true, length-rest, keptOf, unused-chain, zeros-filled, well-kept, fed-fed, fed-empty}
+use Rattle.definition.proofs.Feeding.{length-rest, keptOf, unused-chain, zeros-filled, well-kept, fed-fed, fed-empty}
+use Rattle.definition.proofs.Formed.{Formed, formed}
 use Rattle.definition.proofs.Records.{length-encode, decode-encode, encode-decode, bytes-drop, word-lt}
 use Rattle.definition.proofs.Bounds.{Words, AllWords, none, more, chain-words, five-words, word-in}
 use Rattle.definition.proofs.Demand2.{known-byte, length-pending, seven-zeros, done, long}
-
--- what a well formed record says of what it holds: it is well kept, and its pending block has 32 bytes
-record Formed (r : List ℕ) : Type 0 where
-  kept : wellKept (decode r) ≡ true
-  pending : length (decode r .pending) ≡ 32
-
-formed-parts : (r : List ℕ) → wellFormed r ≡ true → Formed r
-unfolding wellFormed
-formed-parts r w =
-    let n : Bool = eqb (length r) recordLength in
-    let z : Bool = allZero (take 7 (drop 1 r)) in
-    let p : ((n && z) ≡ true) × (wellKept (decode r) ≡ true) = both-true (n && z) (wellKept (decode r)) w in
-    let l : length r ≡ 208 = eqb-true (length r) recordLength (both-true n z (p .0) .0) in
-    record { kept = p .1; pending = whole l }
-  where
-    whole : length r ≡ 208 → length (decode r .pending) ≡ 32
-    whole l = unfold decode in length-take-le 32 (drop 168 r) (omega (arith, length-drop 168 r))
 
 -- the blocks read from bytes are words
 block-words : (x : List ℕ) → ((i : ℕ) → getD x i 0 < 256) → Words (blockOf x)
@@ -129,19 +112,19 @@ pub record AnyFed (r p : List ℕ) : Type 0 where
 pub any-fed : (r p : List ℕ) → ((i : ℕ) → getD r i 0 < 256) → wellFormed r ≡ true → decode r .count + length p ≤ limit → AnyFed r p
 unfolding wellFormed
 any-fed r p bytes w h =
-    let c : Formed r = formed-parts r w in
+    let c : Formed r = formed r w in
     let k : Kept = fed (decode r) p in
     let n : length (encode k) ≡ recordLength = length-encode k (fed-pending (decode r) p) in
     let d : decode (encode k) ≡ k =
     decode-encode k (code-byte c) (word-in (fed-words (decode r) p (decoded-words r bytes))) (fed-pending (decode r) p) count-small in
     record {
       accepts = any-done r p w h;
-      formed = rw (eq-eqb (length (encode k)) recordLength n, seven-zeros k, d) (fed-well (decode r) p (c .kept) (c .pending) h);
+      formed = rw (eq-eqb (length (encode k)) recordLength n, seven-zeros k, d) (fed-well (decode r) p (c .holds) (c .buffer) h);
       holds = d;
     }
   where
     code-byte : Formed r → fed (decode r) p .code < 256
-    code-byte c = unfold fed in known-byte (decode r .code) (well-kept (decode r) (c .kept) .code-known)
+    code-byte c = unfold fed in known-byte (decode r .code) (well-kept (decode r) (c .holds) .code-known)
 
     count-small : fed (decode r) p .count < 2 ^ 64
     count-small = unfold fed in omega arith
@@ -156,7 +139,7 @@ any-twice r y z bytes w h =
     let l : decode (encode k) .count + length z ≤ limit = rw (c .holds) within in
     let m : decode r .count + length (y ++ z) ≤ limit = omega (arith, length-append y z) in
     rw (c .accepts, any-done (encode k) z (c .formed) l, any-done r (y ++ z) w m, c .holds)
-    (ap (λ (s : Kept). done (encode s)) (fed-fed (decode r) y z (formed-parts r w .pending)))
+    (ap (λ (s : Kept). done (encode s)) (fed-fed (decode r) y z (formed r w .buffer)))
   where
     within : fed (decode r) y .count + length z ≤ limit
     within = unfold fed in omega arith
@@ -164,7 +147,7 @@ any-twice r y z bytes w h =
 -- the empty piece leaves a well formed record as it is
 pub any-empty : (r : List ℕ) → ((i : ℕ) → getD r i 0 < 256) → wellFormed r ≡ true → feedOutcome r [] ≡ done r
 any-empty r bytes w =
-    let c : Formed r = formed-parts r w in
-    any-done r [] w (omega (arith, well-kept (decode r) (c .kept) .count-le))
-    ∙ ap (λ (s : Kept). done (encode s)) (fed-empty (decode r) (c .kept) (c .pending))
+    let c : Formed r = formed r w in
+    any-done r [] w (omega (arith, well-kept (decode r) (c .holds) .count-le))
+    ∙ ap (λ (s : Kept). done (encode s)) (fed-empty (decode r) (c .holds) (c .buffer))
     ∙ ap done (encode-decode r bytes w)

@@ -1,7 +1,7 @@
 -- A word is its bits: the bits of what the machine's operations give, and a word put together again from its bits.
 -- Assumes nothing.
 use mathlib.Core.Path.{_≡_, refl, sym, ap, ap₂, _∙_}
-use Prim.Native.Nat.{ℕ, zero, suc, _+_, _-_, _*_, _/_, _%_, _^_, _<_, _≤_}
+use Prim.Native.Nat.{ℕ, zero, suc, _+_, _-_, _*_, _/_, _%_, _^_, _<_}
 use native.Mathlib.Nat.{mod-lt, mod-eq-of-lt, zero-lt-suc, mod-one, zero-div}
 use native.Mathlib.Numerals.{one-add}
 use native.Mathlib.Omega.{arith}

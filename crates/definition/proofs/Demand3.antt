@@ -23,7 +23,7 @@ use Rattle.definition.proofs.Writes.{take-overwriteAt, drop-overwriteAt
 use Rattle.definition.proofs.Outcomes.{Untouched, Rounds, Fits}
 use Rattle.definition.proofs.Saves.{recordOf, sheetOf, acceptedOf, Valid, by-answer, Written, Made, save-made, Kept, save-kept, save-marks}
 use Rattle.definition.proofs.Build.{build-fits, build-made, BuildKept, build-kept}
-use Rattle.definition.proofs.Answers.{save-rounds, save-given, save-refused, save-accepted, save-stale, accepted-is, Restored, change-back}
+use Rattle.definition.proofs.Answers.{save-rounds, save-given, save-refused, save-accepted, save-stale, accepted-is, change-back}
 use Rattle.definition.proofs.Joined.{Forty, forty-set, forty-append, forty-take, joined-append, joined-take, joined-set, take-overwritten, take-added, length-cut, forty-cut, joined-cut}
 
 -- a world stands for a list of records

@@ -1,10 +1,9 @@
 -- Document 01's "Examples at the edges" that are marked [P], as one table under one theorem.
 use Prim.Native.Nat.{ℕ}
-use mathlib.Core.Bool.{Bool, true, false}
+use mathlib.Core.Bool.{Bool}
 use mathlib.Core.Path.{_≡_, refl}
-use mathlib.Core.List.{List, [], _∷_}
+use mathlib.Core.List.{[], _∷_}
 use lib.ListN.{length, getD, replicate}
-use Rattle.definition.specs.declared.Block.{Block}
 use Rattle.definition.specs.declared.Pair.{Pair}
 use Rattle.definition.specs.SubCrumb.{S}
 use Rattle.definition.specs.Field.{double}

@@ -4,7 +4,7 @@
 use mathlib.Core.Path.{_≡_, refl, sym, ap, ap₂, _∙_}
 use mathlib.Core.Bool.{Bool}
 use mathlib.Core.List.{List, [], _∷_, map}
-use Prim.Native.Nat.{ℕ, zero, suc, _+_, _-_, _*_, _/_, _%_, _^_, _<_, _≤_}
+use Prim.Native.Nat.{ℕ, zero, suc, _+_, _-_, _*_, _/_, _%_, _^_, _<_}
 use native.Mathlib.Nat.{mod-lt, zero-lt-suc, mul-div-cancel, mul-mod-left, pow-suc, div-lt-iff-lt-mul}
 use lib.Arith.{lt-one}
 use native.Mathlib.Omega.{arith}
@@ -16,7 +16,7 @@ use Rattle.definition.specs.Word.{bit}
 use Rattle.definition.specs.Block.{_⊕_, zeroBlock, wordsOf}
 use Rattle.definition.specs.Field.{double, keep, timesTo, times}
 use Rattle.definition.proofs.Bits.{bit-lt, bit-xor}
-use Rattle.definition.proofs.Cases.{Bits, none, more, everyBits, at-bits}
+use Rattle.definition.proofs.Cases.{none, more, at-bits}
 use Rattle.definition.proofs.Xor.{⊕-zero, zero-⊕, ⊕-self, ⊕-swap, double-⊕}
 
 -- a polynomial as a number: the coefficients from that of x^0 on

@@ -1,11 +1,11 @@
 -- The final stage word by word: word k of Z_0 || Z_1 || .. is word k % 8 of the XOR of the blocks after k / 8 + 1 blank rounds.
 -- Assumes nothing.
-use mathlib.Core.Path.{_≡_, refl, sym, ap, ap₂, _∙_}
-use mathlib.Core.List.{List, [], _∷_, _++_}
+use mathlib.Core.Path.{_≡_, refl, ap, _∙_}
+use mathlib.Core.List.{List, _++_}
 use Prim.Native.Nat.{ℕ, zero, suc, _+_, _-_, _*_, _/_, _%_, _<_, _≤_}
 use native.Mathlib.Decide.{decLt}
 use native.Mathlib.Omega.{arith}
-use lib.ListN.{length, getD, take, replicate, length-append, length-take, List·getD-append}
+use lib.ListN.{length, getD, replicate, List·getD-append}
 use lib.Seq.{getD-append-add, length-take-le}
 use Rattle.definition.specs.declared.Block.{Block}
 use Rattle.definition.specs.declared.State.{State}

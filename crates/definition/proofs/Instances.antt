@@ -1,8 +1,8 @@
 -- The hypotheses of demand 3's theorems can be met: an empty sheet is built, and two planners append to it with the same claim.
 -- Assumes nothing.
 use mathlib.Core.Path.{_≡_, refl, sym, ap, _∙_}
-use mathlib.Core.Bool.{Bool, false, false≢true}
-use mathlib.Core.List.{List, [], _∷_}
+use mathlib.Core.Bool.{false, false≢true}
+use mathlib.Core.List.{List, []}
 use Prim.Native.Nat.{ℕ}
 use lib.ListN.{replicate}
 use Rattle.definition.specs.Luffa.{luffa}

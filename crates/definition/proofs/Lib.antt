@@ -14,6 +14,7 @@ pub mod Codes
 pub mod Refusals
 pub mod Final
 pub mod Feeding
+pub mod Formed
 pub mod Records
 pub mod Bounds
 pub mod Demand2

@@ -1,7 +1,7 @@
 -- Work from a true mark gives the digest of the whole sheet, in document 01's rounds, and leaves true marks.
 -- Assumes nothing.
 use mathlib.Core.Path.{_≡_, refl, sym, ap, ap₂, _∙_}
-use mathlib.Core.List.{List, [], _∷_, _++_, append-assoc}
+use mathlib.Core.List.{List, _++_, append-assoc}
 use Prim.Native.Nat.{ℕ, zero, suc, _+_, _-_, _*_, _/_, _%_, _<_, _≤_}
 use native.Mathlib.Nat.{le-refl}
 use native.Mathlib.Decide.{decLe}
@@ -20,7 +20,7 @@ use Rattle.definition.specs.Start.{blockCount, start}
 use Rattle.definition.specs.State.{five, blocksIn, stateOf}
 use Rattle.definition.specs.Buffer.{overwriteAt}
 use Rattle.definition.specs.Record.{wordsOfAll}
-use Rattle.definition.specs.Final.{final, finalRounds}
+use Rattle.definition.specs.Final.{final}
 use Rattle.definition.specs.Luffa.{widthAt, wordsAt, absorbed, luffa}
 use Rattle.definition.specs.Sheet.{q, N, F, roundsFrom}
 use Rattle.definition.specs.Marks.{held, markAt, blockFrom, stateFrom, markOf, marksAfter, digestAfter, roundsAfter, worked, TrueMark, TrueMarks}

@@ -1,13 +1,12 @@
 -- A string of bytes as blocks: block by block, over two strings, and padded.
 -- Assumes nothing.
 use mathlib.Core.Path.{_≡_, refl, sym, ap, ap₂, _∙_}
-use mathlib.Core.List.{List, [], _∷_, _++_, append-assoc}
-use Prim.Native.Nat.{ℕ, zero, suc, _+_, _-_, _*_, _/_, _%_, _^_, _<_, _≤_}
+use mathlib.Core.List.{List, [], _∷_, _++_}
+use Prim.Native.Nat.{ℕ, zero, suc, _+_, _-_, _*_, _/_, _%_, _<_, _≤_}
 use native.Mathlib.Omega.{arith}
-use lib.ListN.{length, getD, take, drop, replicate, length-append, length-drop, length-replicate, drop-of-length-le}
-use lib.Seq.{getD-take, take-append-le, drop-append-le, drop-drop, take-all}
+use lib.ListN.{length, take, drop, length-append, length-drop, length-replicate}
+use lib.Seq.{getD-take, take-append-le, drop-append-le, drop-drop}
 use Rattle.definition.specs.declared.Block.{Block}
-use Rattle.definition.specs.Word.{wordOf}
 use Rattle.definition.specs.Block.{wordAt, blockOf}
 use Rattle.definition.specs.Padding.{padding, padded, blocksTo, blocks, rest, lastBlock}
 

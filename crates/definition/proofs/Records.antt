@@ -1,25 +1,24 @@
 -- The byte form of the kept hash record: its length, and that writing a record and reading it back gives the record, either way round.
 -- Assumes nothing.
 use mathlib.Core.Path.{_≡_, refl, sym, ap, ap₂, _∙_}
-use mathlib.Core.Bool.{Bool, true, _&&_}
+use mathlib.Core.Bool.{true}
 use mathlib.Core.List.{List, [], _∷_, _++_, append-assoc, append-nil}
 use Prim.Native.Nat.{ℕ, zero, suc, _+_, _*_, _/_, _%_, _^_, _<_, _≤_}
 use native.Mathlib.Nat.{add-zero, mod-eq-of-lt}
 use native.Mathlib.Omega.{arith}
-use lib.Dec.{eqb}
 use lib.ListN.{length, getD, take, drop, replicate, length-append, length-drop, take-append-drop, drop-of-length-le}
 use lib.Pow as Pow
 use lib.Seq.{take-at, drop-at, drop-cons, drop-drop, getD-drop, length-take-le}
-use borrow.Author.Tests.{eqb-true}
 use Rattle.definition.specs.declared.Block.{Block}
 use Rattle.definition.specs.declared.Kept.{Kept}
 use Rattle.definition.specs.declared.State.{State}
 use Rattle.definition.specs.Word.{wordOf, bytesOf, bytesOfAll}
 use Rattle.definition.specs.Block.{wordsOf, wordAt, blockOf}
 use Rattle.definition.specs.State.{five}
-use Rattle.definition.specs.Record.{recordLength, wordsOfAll, countWords, encode, blockIn, decode, allZero, wellKept, wellFormed}
+use Rattle.definition.specs.Record.{wordsOfAll, countWords, encode, blockIn, decode, allZero, wellFormed}
 use Rattle.definition.proofs.Word.{bytes-of-word, word-of-bytes}
-use Rattle.definition.proofs.Feeding.{zeros, both-true}
+use Rattle.definition.proofs.Feeding.{zeros}
+use Rattle.definition.proofs.Formed.{Formed, formed}
 
 -- the bytes of a list of words
 pub length-bytes : (ws : List ℕ) → length (bytesOfAll ws) ≡ 4 * length ws
@@ -330,12 +329,9 @@ head-glue (a ∷ b) h e z =
 
 -- reading a well formed record and writing it again gives its bytes
 pub encode-decode : (b : List ℕ) → ((i : ℕ) → getD b i 0 < 256) → wellFormed b ≡ true → encode (decode b) ≡ b
-unfolding encode wellFormed decode
+unfolding encode decode
 encode-decode b h w =
-    let n : Bool = eqb (length b) recordLength in
-    let z : Bool = allZero (take 7 (drop 1 b)) in
-    let p : ((n && z) ≡ true) × (wellKept (decode b) ≡ true) = both-true (n && z) (wellKept (decode b)) w in
-    let q : (n ≡ true) × (z ≡ true) = both-true n z (p .0) in
-    let l : length b ≡ 208 = eqb-true (length b) recordLength (q .0) in
+    let f : Formed b = formed b w in
+    let l : length b ≡ 208 = f .size in
     simp append-assoc
-    (rw (count-glue b h l, pending-glue b, state-glue b h l) (head-glue b (h 0) l (q .1)))
+    (rw (count-glue b h l, pending-glue b, state-glue b h l) (head-glue b (h 0) l (f .reserved)))

@@ -1,12 +1,12 @@
 -- The answer to a call is the first refusal whose condition holds, and a refused call alters nothing: one law for all calls.
 -- Assumes nothing.
-use mathlib.Core.Path.{_≡_, refl, sym, ap, ap₂, _∙_}
+use mathlib.Core.Path.{_≡_, refl}
 use mathlib.Core.Bool.{Bool, true, false}
 use mathlib.Core.List.{List, [], _∷_, _++_}
-use Prim.Native.Nat.{ℕ, zero, suc}
+use Prim.Native.Nat.{ℕ, suc}
 use native.Mathlib.Omega.{arith}
 use Rattle.definition.specs.Refusal.{Refusal, pick, firstOf}
-use Rattle.definition.specs.Calls.{Outcome, whenDone, outcome}
+use Rattle.definition.specs.Calls.{whenDone, outcome}
 
 -- k is refused first: its condition holds, and none ranked before it
 pub data First (k : ℕ) : List Refusal → Type 0 where

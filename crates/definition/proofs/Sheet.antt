@@ -1,9 +1,9 @@
 -- Document 01's numbers of the sheet, one from the other.
 -- Assumes nothing.
 use mathlib.Core.Path.{_≡_}
-use Prim.Native.Nat.{ℕ, _+_, _-_, _*_, _/_, _%_}
+use Prim.Native.Nat.{ℕ, _+_, _-_, _*_}
 use native.Mathlib.Omega.{arith}
-use Rattle.definition.specs.Sheet.{q, r, N, F, roundsFrom, buildRounds, checkRounds}
+use Rattle.definition.specs.Sheet.{q, r, N, roundsFrom, buildRounds, checkRounds}
 
 -- n = 4q + r
 pub groups : (n : ℕ) → n ≡ 4 * q n + r n

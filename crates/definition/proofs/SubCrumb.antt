@@ -4,14 +4,12 @@
 use mathlib.Core.Path.{_≡_, refl, sym, ap, ap₂, _∙_}
 use mathlib.Core.Bool.{Bool}
 use mathlib.Core.List.{List, [], _∷_, _++_, map}
-use Prim.Native.Nat.{ℕ, zero, suc, _+_, _-_, _*_, _/_, _%_, _^_, _<_, _≤_}
-use native.Mathlib.Omega.{arith}
+use Prim.Native.Nat.{ℕ, zero, suc, _+_, _-_, _*_, _^_, _<_}
 use lib.Bits.{bitXor, bitAnd, bitOr, xor-lt, and-lt, or-lt}
 use lib.Dec.{T, eqb, eqb→eq}
 use lib.ListN.{getD, set, List·getD-map}
 use lib.Pow.{ones-sub-lt, pow-pos}
-use Rattle.definition.specs.declared.Crumb.{Crumb}
-use Rattle.definition.specs.Word.{bit, fromBits}
+use Rattle.definition.specs.Word.{bit}
 use Rattle.definition.specs.SubCrumb.{S, crumb, subWord, subCrumb}
 use Rattle.definition.specs.AppendixD.{Instruction, MOV, OR, XOR, AND, NOT, table4, execute, run, results, appendixD}
 use Rattle.definition.proofs.Bits.{bit-lt, bit-zero, bit-xor, bit-and, bit-or, bit-not, from-its-bits}

@@ -2,23 +2,22 @@
 -- what the record's bytes then hold. A code that is no byte has no record, and is refused.
 -- Assumes nothing.
 use mathlib.Core.Path.{_≡_, refl, sym, ap, _∙_}
-use mathlib.Core.Bool.{Bool, true, false, _&&_}
-use mathlib.Core.List.{List, [], _∷_}
+use mathlib.Core.Bool.{true, false}
+use mathlib.Core.List.{List}
 use Prim.Native.Nat.{ℕ, zero, suc, _^_, _<_, _≤_}
 use native.Mathlib.Omega.{arith}
-use lib.Dec.{leb, eqb}
-use lib.ListN.{length, getD, take, drop}
+use lib.ListN.{length, getD}
 use borrow.Author.Tests.{eq-eqb, le-leb, lt-leb}
 use Rattle.definition.specs.declared.Kept.{Kept}
 use Rattle.definition.specs.declared.Lent.{Lent}
 use Rattle.definition.specs.State.{five}
 use Rattle.definition.specs.Refusal.{Refusal, RECORD, pick, firstOf, known}
-use Rattle.definition.specs.Record.{recordLength, wordsOfAll, encode, decode, allZero, wellKept, wellFormed, started, fed, finished}
+use Rattle.definition.specs.Record.{recordLength, wordsOfAll, encode, decode, wellKept, wellFormed, fed, finished}
 use Rattle.definition.specs.Calls.{Outcome, whenDone, outcome, recordRefusal, startRefusals, feedRefusals, finishRefusals, startOutcome, feedOutcome, finishOutcome}
 use Rattle.definition.specs.Lent.{lentOutcome, keptRefusal, lentStartRefusals, lentFeedRefusals, lentFinishRefusals, lentStartOutcome, lentFeedOutcome, lentFinishOutcome}
 use Rattle.definition.specs.Buffer.{overwrite}
 use Rattle.definition.proofs.Refusals.{refused}
-use Rattle.definition.proofs.Feeding.{both-true}
+use Rattle.definition.proofs.Formed.{formed}
 use Rattle.definition.proofs.Records.{length-encode, decode-encode, encode-decode}
 use Rattle.definition.proofs.Demand2.{seven-zeros}
 
@@ -50,11 +49,6 @@ in-bytes rs done before = ap (λ (b : List ℕ). record { number = firstOf rs; b
     same : (n : ℕ) → whenDone n (encode done) (encode before) ≡ encode (whenDone n done before)
     same zero = unfold whenDone in refl
     same (suc n) = unfold whenDone in refl
-
--- what a well formed record holds is well kept
-formed-kept : (r : List ℕ) → wellFormed r ≡ true → wellKept (decode r) ≡ true
-unfolding wellFormed
-formed-kept r w = both-true (eqb (length r) recordLength && allZero (take 7 (drop 1 r))) (wellKept (decode r)) w .1
 
 module _ (k : Kept) (t : Typed k) where
   length-lent : length (encode k) ≡ recordLength
@@ -115,8 +109,8 @@ pub held-feed : (r piece : List ℕ) → ((i : ℕ) → getD r i 0 < 256) → we
 unfolding feedOutcome feedRefusals recordRefusal lentFeedOutcome lentFeedRefusals keptRefusal
 held-feed r piece h w =
     let e : encode (decode r) ≡ r = encode-decode r h w in
-    rw (w, formed-kept r w) (ap (outcome _ _) (sym e) ∙ in-bytes _ _ _)
+    rw (w, formed r w .holds) (ap (outcome _ _) (sym e) ∙ in-bytes _ _ _)
 
 pub held-finish : (r out : List ℕ) → wellFormed r ≡ true → finishOutcome r out ≡ lentFinishOutcome (decode r) out
 unfolding finishOutcome finishRefusals recordRefusal lentFinishOutcome lentFinishRefusals keptRefusal
-held-finish r out w = rw (w, formed-kept r w)
+held-finish r out w = rw (w, formed r w .holds)

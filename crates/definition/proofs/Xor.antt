@@ -1,18 +1,18 @@
 -- XOR of blocks is a commutative group in which each block is its own inverse, and doubling distributes over it: for all blocks.
 -- Assumes nothing.
 use mathlib.Core.Path.{_≡_, refl, sym, ap, ap₂, _∙_}
-use Prim.Native.Nat.{ℕ, zero, suc, _+_, _*_, _/_, _%_, _^_, _<_}
+use Prim.Native.Nat.{ℕ, _+_, _*_, _/_, _%_, _<_}
 use native.Mathlib.Nat.{mod-lt, zero-lt-suc, div-add-mod'}
 use lib.Arith.{bin-ind}
 use lib.Bits.{bitXor, xor-comm, xor-self, xor-shr, xor-mod}
 use lib.Dec.{eqb, eqb→eq}
 use mathlib.Core.Bool.{Bool}
-use mathlib.Core.List.{List, [], _∷_}
+use mathlib.Core.List.{List}
 use lib.ListN.{getD}
 use Rattle.definition.specs.declared.Block.{Block}
 use Rattle.definition.specs.Block.{_⊕_, zeroBlock}
 use Rattle.definition.specs.Field.{double}
-use Rattle.definition.proofs.Cases.{Bits, none, more, everyBits, at-bits}
+use Rattle.definition.proofs.Cases.{none, more, at-bits}
 
 -- at one digit, by its eight cases
 associates : List ℕ → Bool

@@ -1,5 +1,5 @@
 -- Blocks of eight words: section 2.2 of the source. The struct itself stands in src/, so that code and definitions share it.
-use Prim.Native.Nat.{ℕ, zero, suc, _+_, _*_}
+use Prim.Native.Nat.{ℕ, _+_, _*_}
 use mathlib.Core.List.{List, [], _∷_}
 use lib.Bits.{bitXor}
 use lib.ListN.{getD}

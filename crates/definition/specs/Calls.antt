@@ -1,14 +1,13 @@
 -- The outcome of each call on messages and hash records: document 01, "The kept hash record" and refusals 1 to 4. An outcome is the answer's
 -- number and the buffer that was lent for writing, as it is at the end.
 use Prim.Native.Nat.{ℕ, zero, suc, _+_}
-use mathlib.Core.Bool.{Bool, not}
+use mathlib.Core.Bool.{not}
 use mathlib.Core.List.{List, [], _∷_}
 use lib.Dec.{ltb, eqb}
 use lib.ListN.{length}
-use Rattle.definition.specs.declared.Kept.{Kept}
-use Rattle.definition.specs.Luffa.{bytesAt, luffa}
+use Rattle.definition.specs.Luffa.{luffa}
 use Rattle.definition.specs.Buffer.{overwrite}
-use Rattle.definition.specs.Refusal.{Refusal, RECORD, LONG, OUT, firstOf, widthRefusal, outRefusal}
+use Rattle.definition.specs.Refusal.{Refusal, RECORD, LONG, firstOf, widthRefusal, outRefusal}
 use Rattle.definition.specs.Record.{recordLength, limit, encode, decode, wellFormed, started, fed, finished}
 
 pub record Outcome : Type 0 where

@@ -1,6 +1,6 @@
 -- Rounds with their count: document 01, "the count travels with it". A count has 64 bits; that it is the number of rounds that the
 -- definition applies is a law.
-use Prim.Native.Nat.{ℕ, _+_, _%_, _^_}
+use Prim.Native.Nat.{_+_, _%_, _^_}
 use mathlib.Core.List.{List, [], _∷_}
 use Rattle.definition.specs.declared.Block.{Block}
 use Rattle.definition.specs.declared.Counted.{Counted}

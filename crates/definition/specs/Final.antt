@@ -1,6 +1,6 @@
 -- The finalization over a number of words: sections 3.3 and 5 of the source. The digests are uses of it.
 use Prim.Native.Nat.{ℕ, zero, suc, _+_, _/_}
-use mathlib.Core.List.{List, [], _∷_, _++_}
+use mathlib.Core.List.{List, [], _++_}
 use lib.ListN.{take}
 use Rattle.definition.specs.declared.Block.{Block}
 use Rattle.definition.specs.declared.Width.{Width}

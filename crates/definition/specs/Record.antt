@@ -1,14 +1,13 @@
 -- The kept hash record: document 01, "The kept hash record". Its 208 bytes are read as a `Kept`, which is fed and finished.
-use Prim.Native.Nat.{ℕ, zero, suc, _+_, _-_, _*_, _/_, _%_, _^_}
-use mathlib.Core.Bool.{Bool, true, false, _&&_}
-use mathlib.Core.List.{List, [], _∷_, _++_, map}
-use lib.Dec.{leb, ltb, eqb}
+use Prim.Native.Nat.{ℕ, _+_, _-_, _*_, _/_, _%_, _^_}
+use mathlib.Core.Bool.{Bool, true, _&&_}
+use mathlib.Core.List.{List, [], _∷_, _++_}
+use lib.Dec.{leb, eqb}
 use lib.ListN.{length, getD, take, drop, replicate}
 use Rattle.definition.specs.declared.Block.{Block}
 use Rattle.definition.specs.declared.Kept.{Kept}
-use Rattle.definition.specs.declared.State.{State}
 use Rattle.definition.specs.declared.Width.{Width}
-use Rattle.definition.specs.Word.{bytesOf, bytesOfAll}
+use Rattle.definition.specs.Word.{bytesOfAll}
 use Rattle.definition.specs.Block.{wordsOf, wordAt, blockOf}
 use Rattle.definition.specs.Round.{chain}
 use Rattle.definition.specs.Padding.{closing, padded, blocks, rest}

@@ -1,9 +1,9 @@
 -- Refusals by number: document 01, "Refusal numbers". A call's order of refusals is a list of numbers with their conditions; the answer is
 -- the first whose condition holds, and 0 where none does.
-use Prim.Native.Nat.{ℕ, _+_, _*_, _^_}
+use Prim.Native.Nat.{ℕ}
 use mathlib.Core.Bool.{Bool, true, false, not, _&&_}
 use mathlib.Core.List.{List, [], _∷_}
-use lib.Dec.{leb, ltb, eqb}
+use lib.Dec.{leb, ltb}
 use Rattle.definition.specs.Luffa.{bytesAt}
 
 abbrev pub DONE : ℕ

@@ -1,5 +1,5 @@
 -- The starting variables V_j: Appendix A of the source.
-use Prim.Native.Nat.{ℕ, zero, suc}
+use Prim.Native.Nat.{ℕ}
 use mathlib.Core.List.{List, [], _∷_}
 use lib.ListN.{take}
 use Rattle.definition.specs.declared.Block.{Block}

@@ -3,5 +3,4 @@ pub mod Output
 pub mod Places
 pub mod Tests
 pub mod Pieces
-pub mod Formed
 pub mod Memory

@@ -2,13 +2,12 @@
 -- Assumes nothing.
 use mathlib.Core.Path.{_≡_, refl, sym, ap, _∙_}
 use mathlib.Core.List.{List, [], _∷_, _++_, append-assoc, append-nil}
-use Prim.Native.Nat.{ℕ, zero, suc, _+_, _-_, _*_, _/_, _%_, _^_, _<_, _≤_}
+use Prim.Native.Nat.{ℕ, _+_, _-_, _*_, _%_, _<_, _≤_}
 use native.Mathlib.Nat.{mod-lt, zero-lt-suc}
 use native.Mathlib.Omega.{arith}
 use borrow.Author.Tests.{le-leb}
 use lib.ListN.{length, take, drop, replicate, length-append, length-drop, drop-of-length-le}
 use Rattle.definition.specs.declared.Kept.{Kept}
-use Rattle.definition.specs.declared.State.{State}
 use Rattle.definition.specs.Word.{wordOf, bytesOf, bytesOfAll}
 use Rattle.definition.specs.Block.{blockOf, wordAt, wordsOf}
 use Rattle.definition.specs.State.{five}

@@ -2,7 +2,7 @@
 -- Assumes nothing.
 use mathlib.Core.Path.{_≡_, refl, sym, ap, _∙_}
 use mathlib.Core.List.{List, [], _∷_}
-use Prim.Native.Nat.{ℕ, zero, suc, _*_, _/_, _%_, _^_, _<_}
+use Prim.Native.Nat.{ℕ, zero, suc, _^_, _<_}
 use native.Mathlib.Nat.{mul-one, mod-eq-of-lt, div-eq-of-lt}
 use lib.Bits.{or-zero-r}
 use Rattle.definition.specs.declared.Block.{Block}
@@ -11,7 +11,7 @@ use Rattle.definition.specs.declared.Width.{Width}
 use Rattle.definition.specs.declared.Width.the-variants.{W3, W4, W5}
 use Rattle.definition.specs.Word.{rotl}
 use Rattle.definition.specs.Constant.{constantsFrom, constants}
-use Rattle.definition.specs.Permutation.{tweak, step, steps, permute}
+use Rattle.definition.specs.Permutation.{tweak, steps, permute}
 use Rattle.definition.specs.Round.{permuteFrom}
 use Rattle.definition.specs.Start.{blockCount}
 use Rattle.definition.specs.State.{five, blocksIn, stateOf}

@@ -5,7 +5,6 @@ use mathlib.Core.Bool.{Bool, _&&_}
 use Prim.Native.Nat.{ℕ, _+_, _*_, _<_}
 use lib.Dec.{T, eqb, eqb→eq}
 use lib.ListN.{getD}
-use Rattle.definition.specs.declared.Pair.{Pair}
 use Rattle.definition.proofs.Computed.{everything}
 use Rattle.definition.proofs.Cases.{both-left, both-right, everyBelow, at-below}
 use Rattle.permutation.specs.Lanes.{constantAt, tableRow, table}

@@ -1,5 +1,5 @@
 -- Four blocks side by side: word k of block j stands at 4k + j. And the constants of a step, as the generator gives them.
-use Prim.Native.Nat.{ℕ, zero, suc, _+_, _*_, _/_, _%_}
+use Prim.Native.Nat.{ℕ, zero, suc, _+_}
 use mathlib.Core.List.{List, [], _∷_, _++_, map}
 use mathlib.Core.Bool.{Bool, true, false}
 use lib.ListN.{getD, set}

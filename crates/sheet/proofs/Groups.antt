@@ -1,11 +1,11 @@
 -- The work from a mark to the end, group by group: what is left to do from here gives the whole, and the whole is what the definition says.
 -- Assumes nothing.
-use mathlib.Core.Path.{_≡_, refl, sym, ap, ap₂, _∙_}
-use mathlib.Core.List.{List, [], _∷_, _++_}
-use Prim.Native.Nat.{ℕ, zero, suc, _+_, _-_, _*_, _/_, _%_, _^_, _<_, _≤_, min}
+use mathlib.Core.Path.{_≡_, refl, sym, ap, _∙_}
+use mathlib.Core.List.{List}
+use Prim.Native.Nat.{ℕ, suc, _+_, _-_, _*_, _/_, _%_, _^_, _<_, _≤_, min}
 use native.Mathlib.Omega.{arith}
 use lib.ListN.{length, take, drop, replicate, length-replicate, length-drop, take-append-drop}
-use lib.Seq.{length-take-le, take-take, take-add, drop-at, drop-drop}
+use lib.Seq.{length-take-le, take-take, drop-drop}
 use Rattle.definition.specs.declared.Block.{Block}
 use Rattle.definition.specs.declared.Counted.{Counted}
 use Rattle.definition.specs.declared.State.{State}
@@ -20,7 +20,7 @@ use Rattle.definition.specs.State.{five, blocksIn, stateOf}
 use Rattle.definition.specs.Final.{final, finalRounds}
 use Rattle.definition.specs.Counted.{countedChain}
 use Rattle.definition.specs.Luffa.{widthAt, wordsAt, bytesAt}
-use Rattle.definition.specs.Buffer.{overwriteAt, overwrite}
+use Rattle.definition.specs.Buffer.{overwriteAt}
 use Rattle.definition.specs.Record.{wordsOfAll}
 use Rattle.definition.specs.Sheet.{q}
 use Rattle.definition.specs.Marks.{held, markAt, stateFrom, markOf, marksAfter, digestAfter, roundsAfter, worked}

@@ -1,7 +1,7 @@
 -- `hash::digest` meets its contract: at each return the tests that led there say which refusal is first, and the accepted call's rounds are
 -- those of the definition.
 -- Assumes nothing.
-use mathlib.Core.Path.{_≡_, refl, sym, ap, _∙_}
+use mathlib.Core.Path.{sym, ap, _∙_}
 use mathlib.Core.List.{List}
 use Prim.Native.Nat.{ℕ}
 use native.Mathlib.Nat.{zero-add}

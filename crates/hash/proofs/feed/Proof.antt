@@ -14,7 +14,7 @@ use Rattle.definition.specs.Refusal.{pick, firstOf}
 use Rattle.definition.specs.Record.{limit, wellFormed, encode, decode, fed}
 use Rattle.definition.specs.Calls.{recordRefusal, longRefusal, feedRefusals, feedOutcome}
 use Rattle.definition.proofs.Refusals.{refused, accepted}
-use Rattle.hash.proofs.Formed.{Formed, formed}
+use Rattle.definition.proofs.Formed.{formed}
 use Rattle.hash.proofs.feed.Statement.{statement}
 use Rattle.hash.proofs.feed.Tie as tie
 

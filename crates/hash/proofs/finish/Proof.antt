@@ -10,7 +10,7 @@ use Rattle.definition.specs.Record.{wellFormed, decode}
 use Rattle.definition.specs.Calls.{recordRefusal, finishRefusals, finishOutcome}
 use Rattle.definition.proofs.Refusals.{refused}
 use Rattle.definition.proofs.Working.{held-finish}
-use Rattle.hash.proofs.Formed.{formed}
+use Rattle.definition.proofs.Formed.{formed}
 use Rattle.hash.proofs.finish.Statement.{statement}
 use Rattle.hash.proofs.finish.Tie as tie
 

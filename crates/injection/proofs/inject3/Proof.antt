@@ -1,6 +1,6 @@
 -- `injection::inject3` meets its contract: what its callees ensure makes Appendix E's forms, which give the matrix.
 -- Assumes nothing.
-use mathlib.Core.Path.{_≡_, refl}
+use mathlib.Core.Path.{refl}
 use mathlib.Core.List.{[], _∷_}
 use Rattle.definition.specs.declared.Width.the-variants.{W3}
 use Rattle.definition.specs.AppendixE.{power, sum, η, ξ, chained, forms, value, appendixE}

@@ -1,13 +1,13 @@
 -- `permutation::all_steps` meets its contract. The loop's invariant: each lane, and the fifth block beside them, has i steps behind it.
 -- Assumes nothing.
 use mathlib.Core.Path.{_≡_, refl, ap, _∙_}
-use Prim.Native.Nat.{ℕ, suc, _≤_, _-_}
+use Prim.Native.Nat.{_≤_, _-_}
 use native.Mathlib.Numerals.{add-one}
 use native.Mathlib.Omega.{arith}
 use borrow.Author.Needs.{needs}
 use Rattle.definition.proofs.Cases.{same→eq}
 use Rattle.definition.proofs.Computed.{everything}
-use Rattle.permutation.specs.Lanes.{lane, lanesOf, constantAt, stepAt, stepped, after, fifthAfter, allAfter, tableRow, table}
+use Rattle.permutation.specs.Lanes.{lane, lanesOf, constantAt, after, fifthAfter, allAfter, tableRow, table}
 use Rattle.permutation.proofs.Lanes.{from-lanes, lanesAfter, stepped-after}
 use Rattle.permutation.proofs.all_steps.Statement.{statement}
 use Rattle.permutation.proofs.all_steps.Tie as tie

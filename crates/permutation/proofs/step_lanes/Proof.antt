@@ -6,7 +6,7 @@ use native.Mathlib.Numerals.{add-one}
 use native.Mathlib.Omega.{arith}
 use denote.Ref.{now}
 use borrow.Author.Needs.{needs}
-use Rattle.permutation.specs.Lanes.{lane, putLane, lanesOf, stepAt, stepped}
+use Rattle.permutation.specs.Lanes.{lane}
 use Rattle.permutation.proofs.Lanes.{runLanes, all-lanes}
 use Rattle.permutation.proofs.step_lanes.Statement.{statement}
 use Rattle.permutation.proofs.step_lanes.Tie as tie

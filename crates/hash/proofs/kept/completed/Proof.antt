@@ -1,13 +1,10 @@
 -- `hash::kept::completed` meets its contract: nothing was pending, or the pending block is full.
 -- Assumes nothing.
-use mathlib.Core.Path.{_≡_, ap, _∙_}
-use mathlib.Core.List.{List}
-use Prim.Native.Nat.{ℕ}
+use mathlib.Core.Path.{ap, _∙_}
 use native.Mathlib.Omega.{arith}
 use denote.Ref.{now}
 use borrow.Author.Needs.{needs}
 use Rattle.definition.specs.declared.Counted.{Counted}
-use Rattle.definition.specs.Padding.{blocks}
 use Rattle.definition.proofs.Chain.{counted-state}
 use Rattle.hash.proofs.Pieces.{empty-front, full-front}
 use Rattle.hash.proofs.kept.completed.Statement.{statement}

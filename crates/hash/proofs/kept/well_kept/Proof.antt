@@ -1,10 +1,10 @@
 -- `hash::kept::well_kept` meets its contract: the conditions are tested in their order.
 -- Assumes nothing.
-use mathlib.Core.Path.{_≡_, sym, ap, _∙_}
+use mathlib.Core.Path.{sym, _∙_}
 use Prim.Native.Nat.{_%_}
 use borrow.Author.Needs.{needs}
 use borrow.Author.Tests.{not-true, not-false}
-use Rattle.definition.specs.Record.{allZero, pendingCount, wellKept}
+use Rattle.definition.specs.Record.{pendingCount, wellKept}
 use Rattle.hash.proofs.Tests.{part-of}
 use Rattle.hash.proofs.kept.well_kept.Statement.{statement}
 use Rattle.hash.proofs.kept.well_kept.Tie as tie

@@ -1,6 +1,6 @@
 -- `hash::kept::zero_block` meets its contract: the words are tested in order.
 -- Assumes nothing.
-use mathlib.Core.Path.{_≡_, sym}
+use mathlib.Core.Path.{sym}
 use borrow.Author.Tests.{eq-eqb, ne-eqb}
 use Rattle.definition.specs.Block.{wordsOf}
 use Rattle.definition.specs.Record.{allZero}

@@ -1,6 +1,6 @@
 -- `hash::lent::started_answer` meets its contract: at each return the test that led there says whether the code is refused.
 -- Assumes nothing.
-use mathlib.Core.Path.{_≡_, sym, ap, _∙_}
+use mathlib.Core.Path.{sym, ap, _∙_}
 use borrow.Author.Tests.{not-true, not-false}
 use Rattle.definition.specs.declared.Kept.{Kept}
 use Rattle.definition.specs.Refusal.{pick, firstOf, widthRefusal}

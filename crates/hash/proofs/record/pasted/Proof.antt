@@ -2,7 +2,6 @@
 -- Assumes nothing.
 use mathlib.Core.Path.{_∙_}
 use native.Mathlib.Omega.{arith}
-use denote.Ref.{now}
 use borrow.Author.Needs.{needs}
 use Rattle.rounds.proofs.Total.{write-at}
 use Rattle.hash.proofs.record.pasted.Statement.{statement}

@@ -1,6 +1,6 @@
 -- `hash::record::well_formed` meets its contract: the conditions are tested in their order.
 -- Assumes nothing.
-use mathlib.Core.Path.{_≡_, sym, _∙_}
+use mathlib.Core.Path.{sym, _∙_}
 use borrow.Author.Needs.{needs}
 use borrow.Author.Tests.{eq-eqb, ne-eqb, not-true, not-false}
 use Rattle.definition.specs.Record.{wellFormed}

@@ -1,12 +1,12 @@
 -- `rounds::bytes::put_bytes` meets its contract. The loop's invariant: the first j bytes are copied.
 -- Assumes nothing.
-use mathlib.Core.Path.{_≡_, refl, sym, ap, _∙_}
-use mathlib.Core.List.{List, _++_}
-use Prim.Native.Nat.{ℕ, suc, _+_, _-_, _^_, _<_, _≤_}
+use mathlib.Core.Path.{_≡_, sym, ap, _∙_}
+use mathlib.Core.List.{List}
+use Prim.Native.Nat.{ℕ, _+_, _-_, _^_, _<_, _≤_}
 use native.Mathlib.Numerals.{add-one}
 use native.Mathlib.Omega.{arith}
 use denote.Ref.{now}
-use lib.ListN.{length, take, drop, length-set}
+use lib.ListN.{length}
 use lib.Seq.{paste, paste-zero, paste-suc, length-paste, take-length}
 use Rattle.definition.specs.Buffer.{overwriteAt}
 use Rattle.rounds.proofs.Total.{write-at, write-not}

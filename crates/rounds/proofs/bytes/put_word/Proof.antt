@@ -1,6 +1,6 @@
 -- `rounds::bytes::put_word` meets its contract: four stores in a row write the word's bytes, or there is no room for them.
 -- Assumes nothing.
-use mathlib.Core.Path.{_≡_, sym, _∙_}
+use mathlib.Core.Path.{_≡_}
 use mathlib.Core.List.{List}
 use Prim.Native.Nat.{ℕ, _+_, _<_, _≤_}
 use native.Mathlib.Omega.{arith}

@@ -1,6 +1,5 @@
 -- `rounds::codes::known` meets its contract: the two tests are the definition's.
 -- Assumes nothing.
-use mathlib.Core.Path.{_≡_, refl}
 use borrow.Author.Tests.{lt-leb, le-leb}
 use Rattle.definition.specs.Refusal.{known as knownOf}
 use Rattle.rounds.proofs.codes.known.Statement.{statement}

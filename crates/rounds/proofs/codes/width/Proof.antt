@@ -1,6 +1,6 @@
 -- `rounds::codes::width` meets its contract: Table 2 at each code.
 -- Assumes nothing.
-use mathlib.Core.Path.{_≡_, sym}
+use mathlib.Core.Path.{sym}
 use Rattle.definition.specs.Luffa.{widthAt}
 use Rattle.definition.proofs.Codes.{width-other}
 use Rattle.rounds.proofs.codes.width.Statement.{statement}

@@ -1,6 +1,6 @@
 -- `rounds::codes::words` meets its contract: Table 3 at each code.
 -- Assumes nothing.
-use mathlib.Core.Path.{_≡_, sym}
+use mathlib.Core.Path.{sym}
 use Rattle.definition.specs.Luffa.{wordsAt}
 use Rattle.definition.proofs.Codes.{words-other}
 use Rattle.rounds.proofs.codes.words.Statement.{statement}

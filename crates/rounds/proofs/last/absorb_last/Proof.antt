@@ -9,7 +9,6 @@ use borrow.Author.Needs.{needs}
 use lib.ListN.{length, drop, length-drop}
 use Rattle.definition.specs.Block.{blockOf}
 use Rattle.definition.specs.Padding.{closing, padding, blocks, rest, lastBlock}
-use Rattle.definition.specs.Counted.{countedChain}
 use Rattle.definition.proofs.Padding.{blocks-padded}
 use Rattle.definition.proofs.Chain.{counted-append}
 use Rattle.rounds.proofs.Parts.{part-rest}

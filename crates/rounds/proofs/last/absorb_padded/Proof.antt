@@ -1,14 +1,13 @@
 -- `rounds::last::absorb_padded` meets its contract. The loop's invariant: the first i bytes are copied, and zeros follow.
 -- Assumes nothing.
-use mathlib.Core.Path.{_≡_, refl, sym, ap, _∙_}
-use mathlib.Core.List.{List, _∷_, _++_}
+use mathlib.Core.Path.{_≡_, sym, ap, _∙_}
+use mathlib.Core.List.{List, _++_}
 use Prim.Native.Nat.{ℕ, suc, _<_, _≤_, _-_}
 use native.Mathlib.Numerals.{add-one}
 use native.Mathlib.Nat.{le-refl, mod-eq-of-lt}
 use native.Mathlib.Omega.{arith}
 use denote.Ref.{now}
-use borrow.Author.Needs.{needs}
-use lib.ListN.{length, set, take, replicate, length-set, length-append}
+use lib.ListN.{length, set, length-set, length-append}
 use lib.Seq.{take-length}
 use Rattle.definition.specs.Padding.{closing, padding}
 use Rattle.definition.proofs.Padding.{blocks-one, length-padding}

@@ -2,13 +2,12 @@
 -- Assumes nothing.
 use mathlib.Core.Path.{_≡_, refl, sym, ap, _∙_}
 use mathlib.Core.List.{List}
-use Prim.Native.Nat.{ℕ, suc, _-_, _*_, _/_, _^_, _<_, _≤_, min}
+use Prim.Native.Nat.{ℕ, _-_, _/_, _^_, _<_, _≤_, min}
 use native.Mathlib.Numerals.{add-one}
 use native.Mathlib.Omega.{arith}
 use denote.Ref.{now}
-use borrow.Author.Needs.{needs}
 use lib.ListN.{length}
-use Rattle.definition.specs.Word.{bytesOf, bytesOfAll}
+use Rattle.definition.specs.Word.{bytesOfAll}
 use Rattle.definition.specs.Counted.{countedChain}
 use Rattle.definition.specs.Buffer.{overwrite}
 use Rattle.definition.proofs.Buffer.{overwrite-none}
