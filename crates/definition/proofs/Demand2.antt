@@ -8,7 +8,7 @@ use Prim.Native.Nat.{ℕ, _+_, _-_, _^_, _<_, _≤_}
 use native.Mathlib.Omega.{arith}
 use lib.Dec.{leb}
 use lib.ListN.{length, take, drop, replicate, length-append, length-replicate}
-use borrow.Author.Tests.{leb-true, lt-ltb, le-ltb, eq-eqb}
+use borrow.Author.Tests.{leb-true, le-ltb, eq-eqb}
 use Rattle.definition.specs.declared.Kept.{Kept}
 use Rattle.definition.specs.Padding.{rest}
 use Rattle.definition.specs.Luffa.{bytesAt, luffa}
@@ -16,7 +16,7 @@ use Rattle.definition.specs.Buffer.{overwrite}
 use Rattle.definition.specs.Refusal.{LONG, pick, firstOf, known, widthRefusal, outRefusal}
 use Rattle.definition.specs.Record.{recordLength, limit, filled, encode, decode, allZero, wellFormed, started, fed, finished}
 use Rattle.definition.specs.Calls.{Outcome, longRefusal, recordRefusal, digestRefusals, startRefusals, feedRefusals, finishRefusals, digestOutcome, startOutcome, feedOutcome, finishOutcome}
-use Rattle.definition.proofs.Refusals.{refused, accepted}
+use Rattle.definition.proofs.Refusals.{accepted}
 use Rattle.definition.proofs.Feeding.{both-true, length-rest, keptOf, kept-started, kept-fed, kept-finished, kept-well}
 use Rattle.definition.proofs.Records.{length-encode, decode-encode}
 use Rattle.definition.proofs.Bounds.{kept-words}
@@ -104,23 +104,6 @@ feed-done code x p k h =
     none : firstOf (feedRefusals r (length p)) ≡ 0
     none = unfold feedRefusals recordRefusal longRefusal firstOf pick keptOf in
         rw (c .formed, c .holds, le-ltb limit (length x + length p) h)
-
--- a piece past the limit is refused, and the record is as it was
-pub feed-long : (code : ℕ) (x p : List ℕ) → known code ≡ true → length x ≤ limit → limit < length x + length p
-    → feedOutcome (encode (keptOf code x)) p ≡ long (encode (keptOf code x))
-unfolding feedOutcome
-feed-long code x p k h l =
-    sym (refused (feedRefusals r (length p)) (encode (fed (decode r) p)) r 3 first)
-  where
-    r : List ℕ
-    r = encode (keptOf code x)
-
-    c : Holds code x r
-    c = record-of code x k h
-
-    first : firstOf (feedRefusals r (length p)) ≡ LONG
-    first = unfold feedRefusals recordRefusal longRefusal firstOf pick keptOf in
-        rw (c .formed, c .holds, lt-ltb limit (length x + length p) l)
 
 -- an output buffer that is long enough: the digest of the message that the record holds
 pub finish-done : (code : ℕ) (x out : List ℕ) → known code ≡ true → length x ≤ limit → bytesAt code ≤ length out

@@ -4,7 +4,10 @@
 use mathlib.Core.Path.{_≡_, sym, _∙_}
 use mathlib.Core.List.{List}
 use Prim.Native.Nat.{ℕ}
+use Rattle.definition.specs.declared.Kept.{Kept}
+use Rattle.definition.specs.declared.Lent.{Lent}
 use Rattle.definition.specs.Calls.{Outcome, digestOutcome, startOutcome, feedOutcome, finishOutcome}
+use Rattle.definition.specs.Lent.{lentStartOutcome, lentFeedOutcome, lentFinishOutcome}
 use Rattle.definition.specs.SheetCalls.{SheetOutcome, buildOutcome, changeOutcome, appendOutcome, dropOutcome}
 
 -- one law for all calls
@@ -23,6 +26,15 @@ feed-determined r piece = determined (feedOutcome r piece)
 
 pub finish-determined : (r out : List ℕ) (a b : Outcome) → a ≡ finishOutcome r out → b ≡ finishOutcome r out → a ≡ b
 finish-determined r out = determined (finishOutcome r out)
+
+pub lent-start-determined : (code : ℕ) (k : Kept) (a b : Lent) → a ≡ lentStartOutcome code k → b ≡ lentStartOutcome code k → a ≡ b
+lent-start-determined code k = determined (lentStartOutcome code k)
+
+pub lent-feed-determined : (k : Kept) (piece : List ℕ) (a b : Lent) → a ≡ lentFeedOutcome k piece → b ≡ lentFeedOutcome k piece → a ≡ b
+lent-feed-determined k piece = determined (lentFeedOutcome k piece)
+
+pub lent-finish-determined : (k : Kept) (out : List ℕ) (a b : Outcome) → a ≡ lentFinishOutcome k out → b ≡ lentFinishOutcome k out → a ≡ b
+lent-finish-determined k out = determined (lentFinishOutcome k out)
 
 pub build-determined : (code : ℕ) (sheet : List ℕ) (n : ℕ) (marks out : List ℕ) (a b : SheetOutcome)
     → a ≡ buildOutcome code sheet n marks out → b ≡ buildOutcome code sheet n marks out → a ≡ b

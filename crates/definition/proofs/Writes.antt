@@ -58,11 +58,6 @@ put-back i n l' l h a b =
     let m : length (take n (drop i l)) ≡ n = length-take-le n (drop i l) (omega (arith, length-drop i l)) in
     rw (m, a, b, ← take-add i n l) (take-append-drop (i + n) l)
 
-pub overwrite-back : (i : ℕ) (p l : List ℕ) → i + length p ≤ length l → overwriteAt i (take (length p) (drop i l)) (overwriteAt i p l) ≡ l
-overwrite-back i p l h =
-    put-back i (length p) (overwriteAt i p l) l h (take-overwriteAt i i p l (omega arith) (omega arith))
-    (drop-overwriteAt i (i + length p) p l (omega arith) (omega arith))
-
 -- in front is from place 0 on
 pub overwrite-front : (p l : List ℕ) → overwriteAt 0 p l ≡ overwrite p l
 unfolding overwriteAt overwrite
