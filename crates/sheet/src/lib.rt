@@ -2,7 +2,7 @@
 // the answer and the buffers that were lent, is one function of its inputs.
 mod judge;
 mod mark;
-mod work;
+mod onward;
 
 ghost use mathlib.Core.Path.{_≡_};
 ghost use Rattle.definition.specs.SheetCalls.{buildOutcome, changeOutcome, appendOutcome, dropOutcome};
@@ -42,7 +42,7 @@ pub fn build(code: usize, sheet: &[u8], n: usize, marks: &mut [u32], out: &mut [
         };
     }
     mark::write(marks, 0, rounds::start(rounds::codes::width(code)));
-    let rounds = work::work(code, sheet, n, marks, 0, 0, out);
+    let rounds = onward::work_on(code, sheet, n, marks, 0, 0, out);
     Answer {
         number: DONE,
         count: n as u64,
@@ -80,7 +80,7 @@ pub fn change(
             rounds: 0,
         };
     }
-    let k = work::check(code, sheet, n, marks, claim);
+    let k = onward::check(code, sheet, n, marks, claim);
     if k.stale {
         return Answer {
             number: STALE,
@@ -89,7 +89,7 @@ pub fn change(
         };
     }
     rounds::bytes::put_bytes(sheet, judge::RECORD * place, record);
-    let rounds = work::work(code, sheet, n, marks, place / 4, k.rounds, out);
+    let rounds = onward::work_on(code, sheet, n, marks, place / 4, k.rounds, out);
     Answer {
         number: DONE,
         count: n as u64,
@@ -125,7 +125,7 @@ pub fn append(
             rounds: 0,
         };
     }
-    let k = work::check(code, sheet, n, marks, claim);
+    let k = onward::check(code, sheet, n, marks, claim);
     if k.stale {
         return Answer {
             number: STALE,
@@ -134,7 +134,7 @@ pub fn append(
         };
     }
     rounds::bytes::put_bytes(sheet, judge::RECORD * n, record);
-    let rounds = work::work(code, sheet, n + 1, marks, n / 4, k.rounds, out);
+    let rounds = onward::work_on(code, sheet, n + 1, marks, n / 4, k.rounds, out);
     Answer {
         number: DONE,
         count: (n + 1) as u64,
@@ -161,7 +161,7 @@ pub fn drop(
             rounds: 0,
         };
     }
-    let k = work::check(code, sheet, n, marks, claim);
+    let k = onward::check(code, sheet, n, marks, claim);
     if k.stale {
         return Answer {
             number: STALE,
@@ -171,7 +171,7 @@ pub fn drop(
     }
     rounds::bytes::put_bytes(sheet, judge::RECORD * (n - 1), &[0u8; 40]);
     mark::clear(marks, n);
-    let rounds = work::work(code, sheet, n - 1, marks, (n - 1) / 4, k.rounds, out);
+    let rounds = onward::work_on(code, sheet, n - 1, marks, (n - 1) / 4, k.rounds, out);
     Answer {
         number: DONE,
         count: (n - 1) as u64,

@@ -15,7 +15,7 @@ use Rattle.definition.specs.Run.Call.{Append}
 use Rattle.rounds.proofs.Total.{write-at, length-writeAt}
 use Rattle.definition.proofs.Saves.{recordOf, marksOf, Valid, valid}
 use Rattle.definition.proofs.Answers.{refused-first, stale-first}
-use Rattle.sheet.specs.declared.work.Checked.{Checked}
+use Rattle.sheet.specs.declared.onward.Checked.{Checked}
 use Rattle.sheet.proofs.Answered.{few, put-together}
 use Rattle.sheet.proofs.append.Statement.{statement}
 use Rattle.sheet.proofs.append.Tie as tie
@@ -58,13 +58,13 @@ mul-put-bytes : tie.Need-mul-put-bytes
 unfolding placeOf
 mul-put-bytes c = omega (arith, fine (c .before .before .before .before .before .before .before) .record-room)
 
-add-work : tie.Need-add-work
+add-work-on : tie.Need-add-work-on
 unfolding countOf
-add-work c = omega (arith, fine (c .before .before .before .before .before .before .before .before .before .before .before) .new-count)
+add-work-on c = omega (arith, fine (c .before .before .before .before .before .before .before .before .before .before .before) .new-count)
 
-work-requires : tie.Need-work-requires
+work-on-requires : tie.Need-work-on-requires
 unfolding q placeOf countOf outOf
-work-requires c κs =
+work-on-requires c κs =
     let v = fine (c .before .before .before .before .before .before .before .before .before .before .before .before .before) in
     let k = c .before .before .before .before .before .before .before .before .before .before .check .ensures in
     let p = c .before .before .before .before .before .put-bytes .ensures in (
@@ -85,7 +85,7 @@ unfolding call q placeOf countOf claimOf outOf recordOf marksOf
 returns-3 c =
     let s = c .before .before .before .before .before .before .before .before .before .before .before .before .before .before .before .before .before .before .before .before .before .before .before .before .before in
     let k = c .before .before .before .before .before .before .before .before .before .before .before .before .before .before .before .check .ensures in
-    let w = c .before .before .before .before .work .ensures in
+    let w = c .before .before .before .before .work-on .ensures in
     let p = c .before .before .before .before .before .before .before .before .before .before .put-bytes .ensures in
     let e = c .before .before .before .before .before .before .before .before .before .before .before .before .before .before .before .before .before .before in
     let v = fine e in
@@ -104,8 +104,8 @@ append-spec =
     returns-2
     mul-put-bytes
     (λ c κs. tt)
-    add-work
-    work-requires
+    add-work-on
+    work-on-requires
     add-t13
     (λ c. search needs)
     (λ c. search needs)

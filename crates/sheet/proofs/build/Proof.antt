@@ -40,8 +40,8 @@ fine c = fits _ _ _ _ _ [] (passed c) .0
 write-requires : tie.Need-write-requires
 write-requires c κs = omega (arith, fine (c .before .before .before) .marks-room)
 
-work-requires : tie.Need-work-requires
-work-requires c κs =
+work-on-requires : tie.Need-work-on-requires
+work-on-requires c κs =
     let f = fine (c .before .before .before .before .before .before .before .before) in
     (f .count, f .sheet-room, omega (arith, f .marks-room, c .before .before .before .before .write .kept .0), omega arith, omega arith, f .out-room)
 
@@ -50,7 +50,7 @@ unfolding markOf
 returns-2 c =
     let a = c .before .before .before .before .before .before .before .before .before .before .before .before .before .before .before .before .before .before .args in
     let e = c .before .before .before .before .before .before .before .before .before .write .ensures in
-    let w = c .before .before .before .before .work .ensures in
+    let w = c .before .before .before .before .work-on .ensures in
     let s = rw (c .before .before .before .before .before .before .before .before .before .before .before .width .ensures) at (c .before .before .before .before .before .before .before .before .before .before .start .ensures) in
     build-together (a .code) (now (a .sheet)) (a .n) (now (a .marks)) (now (a .out)) _ _ _ _ (passed (c .before .before .before .before .before .before .before .before .before .before .before .before .before))
     (e ∙ overwrite-front _ _ ∙ ap (λ (h : State). overwrite (wordsOfAll (five h)) (now (a .marks))) s) (w .0) (w .1 .0) (w .1 .1)
@@ -64,7 +64,7 @@ build-spec =
     (λ c κs. tt)
     (λ c κs. tt)
     write-requires
-    work-requires
+    work-on-requires
     (λ c. search needs)
     (λ c. search needs)
     returns-2)

@@ -15,7 +15,7 @@ use Rattle.definition.specs.Run.Call.{Drop}
 use Rattle.rounds.proofs.Total.{write-at, length-writeAt}
 use Rattle.definition.proofs.Saves.{recordOf, marksOf, Valid, valid}
 use Rattle.definition.proofs.Answers.{refused-first, stale-first}
-use Rattle.sheet.specs.declared.work.Checked.{Checked}
+use Rattle.sheet.specs.declared.onward.Checked.{Checked}
 use Rattle.sheet.proofs.Answered.{few, put-together}
 use Rattle.sheet.proofs.drop.Statement.{statement}
 use Rattle.sheet.proofs.drop.Tie as tie
@@ -66,17 +66,17 @@ clear-requires : tie.Need-clear-requires
 unfolding q
 clear-requires c κs = omega (arith, fine (c .before .before .before .before .before .before .before .before .before .before .before .before) .marks-room, ap length (c .before .before .before .before .before .before .before .before .before .check .ensures .1))
 
-sub-work : tie.Need-sub-work
+sub-work-on : tie.Need-sub-work-on
 unfolding placeOf countOf
-sub-work c = omega (arith, fine (c .before .before .before .before .before .before .before .before .before .before .before .before .before .before .before .before) .in-one)
+sub-work-on c = omega (arith, fine (c .before .before .before .before .before .before .before .before .before .before .before .before .before .before .before .before) .in-one)
 
-sub-work-2 : tie.Need-sub-work-2
+sub-work-on-2 : tie.Need-sub-work-on-2
 unfolding placeOf countOf
-sub-work-2 c = omega (arith, fine (c .before .before .before .before .before .before .before .before .before .before .before .before .before .before .before .before .before) .in-one)
+sub-work-on-2 c = omega (arith, fine (c .before .before .before .before .before .before .before .before .before .before .before .before .before .before .before .before .before) .in-one)
 
-work-requires : tie.Need-work-requires
+work-on-requires : tie.Need-work-on-requires
 unfolding q placeOf countOf outOf
-work-requires c κs =
+work-on-requires c κs =
     let v = fine (c .before .before .before .before .before .before .before .before .before .before .before .before .before .before .before .before .before .before) in
     let k = c .before .before .before .before .before .before .before .before .before .before .before .before .before .before .before .check .ensures in
     let p = c .before .before .before .before .before .before .before .before .before .put-bytes .ensures in (
@@ -97,7 +97,7 @@ unfolding call q placeOf countOf claimOf outOf recordOf marksOf
 returns-3 c =
     let s = c .before .before .before .before .before .before .before .before .before .before .before .before .before .before .before .before .before .before .before .before .before .before .before .before .before .before .before .before .before in
     let k = c .before .before .before .before .before .before .before .before .before .before .before .before .before .before .before .before .before .before .before .before .check .ensures in
-    let w = c .before .before .before .before .work .ensures in
+    let w = c .before .before .before .before .work-on .ensures in
     let p = c .before .before .before .before .before .before .before .before .before .before .before .before .before .before .put-bytes .ensures in
     let e = c .before .before .before .before .before .before .before .before .before .before .before .before .before .before .before .before .before .before .before .before .before .before .before in
     let v = fine e in
@@ -119,9 +119,9 @@ drop-spec =
     (λ c. search needs)
     (λ c κs. tt)
     clear-requires
-    sub-work
-    sub-work-2
-    work-requires
+    sub-work-on
+    sub-work-on-2
+    work-on-requires
     sub-t12
     (λ c. search needs)
     (λ c. search needs)

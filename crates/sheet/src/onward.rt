@@ -16,7 +16,7 @@ const GROUP: usize = 160;
 
 // From mark m as found to the end of n records: the marks after m are written on the way, and the digest into the front of out. The count
 // goes on from the rounds that were run before.
-pub(crate) fn work(
+pub(crate) fn work_on(
     code: usize,
     sheet: &[u8],
     n: usize,
@@ -79,7 +79,7 @@ pub(crate) fn check(code: usize, sheet: &[u8], n: usize, marks: &mut [u32], clai
     ensures { λ r. ⌜ now (marks .exit) ≡ now (marks .entry) ⌝ }
 {
     let mut digest = [0u8; 64];
-    let rounds = work(code, sheet, n, marks, n / 4, 0, &mut digest);
+    let rounds = work_on(code, sheet, n, marks, n / 4, 0, &mut digest);
     Checked {
         stale: differs(claim, &digest),
         rounds: rounds,

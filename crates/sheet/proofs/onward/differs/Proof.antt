@@ -1,4 +1,4 @@
--- `sheet::work::differs` meets its contract. The loop's invariant: what is left decides.
+-- `sheet::onward::differs` meets its contract. The loop's invariant: what is left decides.
 -- Assumes nothing.
 use mathlib.Core.Path.{_≡_, refl, sym, ap, ap₂, _∙_}
 use mathlib.Core.Bool.{Bool, true, false, not}
@@ -12,8 +12,8 @@ use lib.ListN.{length, take, drop, drop-of-length-le}
 use lib.Seq.{length-take-le}
 use Rattle.definition.specs.Buffer.{same}
 use Rattle.sheet.proofs.Claims.{left}
-use Rattle.sheet.proofs.work.differs.Statement.{statement}
-use Rattle.sheet.proofs.work.differs.Tie as tie
+use Rattle.sheet.proofs.onward.differs.Statement.{statement}
+use Rattle.sheet.proofs.onward.differs.Tie as tie
 
 abbrev Inv-loop : tie.InvT-loop
 Inv-loop claim digest i₀ i =

@@ -1,4 +1,4 @@
--- `sheet::work::check` meets its contract: the claim against the digest that the work leaves in front of a buffer.
+-- `sheet::onward::check` meets its contract: the claim against the digest that the work leaves in front of a buffer.
 -- Assumes nothing.
 use mathlib.Core.Path.{ap, _∙_}
 use mathlib.Core.Bool.{not}
@@ -15,12 +15,12 @@ use Rattle.definition.specs.SheetCalls.{checked, stale}
 use Rattle.definition.proofs.Codes.{words-le}
 use Rattle.sheet.proofs.Claims.{in-front, compared}
 use Rattle.sheet.proofs.Groups.{check-leaves}
-use Rattle.sheet.proofs.work.check.Statement.{statement}
-use Rattle.sheet.proofs.work.check.Tie as tie
+use Rattle.sheet.proofs.onward.check.Statement.{statement}
+use Rattle.sheet.proofs.onward.check.Tie as tie
 
-work-requires : tie.Need-work-requires
+work-on-requires : tie.Need-work-on-requires
 unfolding q bytesAt
-work-requires c κs =
+work-on-requires c κs =
     let start = c .before .before .before .before .before in
     (start .pre .0, start .pre .1, start .pre .2, le-refl _, omega arith, omega (arith, words-le (start .args .code)))
 
@@ -28,14 +28,14 @@ differs-requires : tie.Need-differs-requires
 differs-requires c κs =
     let start = c .before .before .before .before .before .before .before .before .before .before in
     let a = start .args in
-    in-front (a .code) (a .n) _ (now (a .sheet)) (now (a .marks)) (now (a .claim)) _ _ (start .pre .3) (c .before .before .before .before .work .ensures .1 .1)
+    in-front (a .code) (a .n) _ (now (a .sheet)) (now (a .marks)) (now (a .claim)) _ _ (start .pre .3) (c .before .before .before .before .work-on .ensures .1 .1)
 
 returns : tie.Need-returns
 unfolding checked stale q
 returns c =
     let start = c .before .before .before .before .before .before .before .before .before .before .before in
     let a = start .args in
-    let k = c .before .before .before .before .before .work .ensures in
+    let k = c .before .before .before .before .before .work-on .ensures in
     let d = compared (a .code) (a .n) _ (now (a .sheet)) (now (a .marks)) (now (a .claim)) _ _ (start .pre .3) (k .1 .1) in (
       λ i. record {
         stale = (c .differs .ensures ∙ ap (λ (x : List ℕ). not (same (now (a .claim)) x)) d) i;
@@ -47,4 +47,4 @@ returns c =
 pub check-spec : {M : Type 1} → statement M
 check-spec =
     tie.close
-    (tie.spec (λ c. search needs) work-requires (λ c. search needs) differs-requires (λ c. search needs) returns)
+    (tie.spec (λ c. search needs) work-on-requires (λ c. search needs) differs-requires (λ c. search needs) returns)

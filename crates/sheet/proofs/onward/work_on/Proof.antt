@@ -1,4 +1,4 @@
--- `sheet::work::work` meets its contract. The loop's invariant: what is still to come from mark k is what was to come from mark m.
+-- `sheet::onward::work_on` meets its contract. The loop's invariant: what is still to come from mark k is what was to come from mark m.
 -- Assumes nothing.
 use mathlib.Core.Path.{_≡_, refl, sym, ap, _∙_}
 use mathlib.Core.List.{List}
@@ -11,8 +11,8 @@ use Rattle.definition.specs.declared.Counted.{Counted}
 use Rattle.definition.specs.Buffer.{overwrite}
 use Rattle.definition.specs.Sheet.{q}
 use Rattle.sheet.proofs.Groups.{ahead, group-on, length-written, absorbed-is, marks-worked, digest-worked, rounds-worked}
-use Rattle.sheet.proofs.work.work.Statement.{statement}
-use Rattle.sheet.proofs.work.work.Tie as tie
+use Rattle.sheet.proofs.onward.work_on.Statement.{statement}
+use Rattle.sheet.proofs.onward.work_on.Tie as tie
 
 abbrev Inv-loop : tie.InvT-loop
 Inv-loop code sheet n marks₀ m before out w c₀ last k₀ marks c k =
@@ -78,8 +78,8 @@ returns c =
       ),
     )
 
-pub work-spec : {M : Type 1} → statement M
-work-spec =
+pub work-on-spec : {M : Type 1} → statement M
+work-on-spec =
     tie.close
     (tie.spec
     Inv-loop
