@@ -1,15 +1,19 @@
--- The part of a slice from a place to its end, and a buffer of zeros that is filled from the front.
+-- The part of a slice from a place to its end, a buffer that is copied into, and a buffer of zeros that is filled from the front.
 -- Assumes nothing.
 use mathlib.Core.Path.{_≡_, sym, ap, _∙_}
 use mathlib.Core.List.{List, _∷_, _++_}
-use Prim.Native.Nat.{ℕ, suc, _-_, _<_, _≤_}
+use Prim.Native.Nat.{ℕ, suc, _+_, _-_, _<_, _≤_}
 use native.Mathlib.Nat.{sub-zero}
 use native.Mathlib.Omega.{arith}
 use lib.ListN.{length, getD, take, drop, set, replicate, length-append, length-drop, length-replicate}
-use lib.Seq.{take-all, set-at, length-take-le, append-snoc, take-suc}
+use lib.Seq.{paste, length-paste, take-all, set-at, length-take-le, append-snoc, take-suc}
 
 pub part-rest : (n : ℕ) (l : List ℕ) → take (length l - n) (drop n l) ≡ drop n l
 part-rest n l = take-all (length l - n) (drop n l) (omega (arith, length-drop n l))
+
+-- a buffer into which the first j elements of t were copied has its length
+pub pasted-length : (b b₀ t : List ℕ) (i j : ℕ) → j ≤ length t → i + length t ≤ length b₀ → b ≡ paste b₀ i t j → length b ≡ length b₀
+pasted-length b b₀ t i j h r e = ap length e ∙ length-paste b₀ i t j (omega arith) h
 
 -- the first i elements of t in a buffer of n zeros
 unfoldable pub filled : (n i : ℕ) → List ℕ → List ℕ

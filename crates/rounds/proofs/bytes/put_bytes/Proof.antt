@@ -1,14 +1,14 @@
 -- `rounds::bytes::put_bytes` meets its contract. The loop's invariant: the first j bytes are copied.
 -- Assumes nothing.
-use mathlib.Core.Path.{_≡_, sym, ap, _∙_}
-use mathlib.Core.List.{List}
-use Prim.Native.Nat.{ℕ, _+_, _-_, _^_, _<_, _≤_}
+use mathlib.Core.Path.{_≡_, sym, _∙_}
+use Prim.Native.Nat.{_+_, _-_, _^_, _<_, _≤_}
 use native.Mathlib.Numerals.{add-one}
 use native.Mathlib.Omega.{arith}
 use denote.Ref.{now}
 use lib.ListN.{length}
-use lib.Seq.{paste, paste-zero, paste-suc, length-paste, take-length}
+use lib.Seq.{paste, paste-zero, paste-suc, take-length}
 use Rattle.definition.specs.Buffer.{overwriteAt}
+use Rattle.rounds.proofs.Parts.{pasted-length}
 use Rattle.rounds.proofs.Total.{write-at, write-not}
 use Rattle.rounds.proofs.bytes.put_bytes.Statement.{statement}
 use Rattle.rounds.proofs.bytes.put_bytes.Tie as tie
@@ -31,15 +31,11 @@ loop-holds c =
     let a = c .before .before .args in
     (omega arith, (omega arith, omega arith), paste-zero (now (a .b)) (a .i) (now (a .t)))
 
--- a buffer into which bytes were copied has its length
-kept-length : (b b₀ t : List ℕ) (i j : ℕ) → j ≤ length t → i + length t ≤ length b₀ → b ≡ paste b₀ i t j → length b ≡ length b₀
-kept-length b b₀ t i j h r e = ap length e ∙ length-paste b₀ i t j (omega arith) h
-
 slice-write-b : tie.Need-slice-write-b Inv-loop μ-loop
 slice-write-b c =
     let a = c .before .before .before .before .before .args in
     let l = c .before .before .loop in
-    let e = kept-length (l .b) (now (a .b)) (now (a .t)) (a .i) (l .j) (omega arith) (omega arith) (l .inv .2) in
+    let e = pasted-length (l .b) (now (a .b)) (now (a .t)) (a .i) (l .j) (omega arith) (omega arith) (l .inv .2) in
     omega (arith, e)
 
 loop-again : tie.Need-loop-again Inv-loop μ-loop
@@ -55,7 +51,7 @@ same-length : tie.Need-same-length Inv-loop μ-loop
 same-length c =
     let a = c .before .before .before .before .args in
     let l = c .before .loop in
-    kept-length (l .b) (now (a .b)) (now (a .t)) (a .i) (l .j) (omega arith) (omega arith) (l .inv .2)
+    pasted-length (l .b) (now (a .b)) (now (a .t)) (a .i) (l .j) (omega arith) (omega arith) (l .inv .2)
 
 returns-3 : tie.Need-returns-3 Inv-loop μ-loop
 unfolding overwriteAt

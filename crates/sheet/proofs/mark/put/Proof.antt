@@ -1,14 +1,14 @@
 -- `sheet::mark::put` meets its contract. The loop's invariant: the first j words are copied.
 -- Assumes nothing.
-use mathlib.Core.Path.{_≡_, ap, _∙_}
-use mathlib.Core.List.{List, _++_}
-use Prim.Native.Nat.{ℕ, suc, _+_, _-_, _^_, _<_, _≤_}
+use mathlib.Core.Path.{_≡_}
+use Prim.Native.Nat.{_+_, _-_, _^_, _<_, _≤_}
 use native.Mathlib.Numerals.{add-one}
 use native.Mathlib.Omega.{arith}
 use denote.Ref.{now}
-use lib.ListN.{length, take, drop, length-set}
-use lib.Seq.{paste, paste-zero, paste-suc, length-paste, take-length}
+use lib.ListN.{length}
+use lib.Seq.{paste, paste-zero, paste-suc, take-length}
 use Rattle.definition.specs.Buffer.{overwriteAt}
+use Rattle.rounds.proofs.Parts.{pasted-length}
 use Rattle.sheet.proofs.mark.put.Statement.{statement}
 use Rattle.sheet.proofs.mark.put.Tie as tie
 
@@ -24,16 +24,12 @@ loop-holds c =
     let a = c .args in
     (omega arith, (omega arith, omega arith), paste-zero (now (a .marks)) (a .i) (now (a .ws)))
 
--- a buffer into which words were copied has its length
-kept-length : (b b₀ t : List ℕ) (i j : ℕ) → j ≤ length t → i + length t ≤ length b₀ → b ≡ paste b₀ i t j → length b ≡ length b₀
-kept-length b b₀ t i j h r e = ap length e ∙ length-paste b₀ i t j (omega arith) h
-
 slice-write-marks : tie.Need-slice-write-marks Inv-loop μ-loop
 slice-write-marks c =
     let a = c .before .before .before .args in
     let l = c .before .before .loop in
     let e : length (l .marks) ≡ length (now (a .marks)) =
-    kept-length (l .marks) (now (a .marks)) (now (a .ws)) (a .i) (l .j) (omega arith) (omega arith) (l .inv .2) in
+    pasted-length (l .marks) (now (a .marks)) (now (a .ws)) (a .i) (l .j) (omega arith) (omega arith) (l .inv .2) in
     omega arith
 
 loop-again : tie.Need-loop-again Inv-loop μ-loop
@@ -49,7 +45,7 @@ same-length : tie.Need-same-length Inv-loop μ-loop
 same-length c =
     let l = c .before .loop in
     let a = c .before .before .args in
-    kept-length (l .marks) (now (a .marks)) (now (a .ws)) (a .i) (l .j) (omega arith) (omega arith) (l .inv .2)
+    pasted-length (l .marks) (now (a .marks)) (now (a .ws)) (a .i) (l .j) (omega arith) (omega arith) (l .inv .2)
 
 returns : tie.Need-returns Inv-loop μ-loop
 unfolding overwriteAt

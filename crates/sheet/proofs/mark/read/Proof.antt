@@ -1,6 +1,6 @@
 -- `sheet::mark::read` meets its contract: five blocks where they lie, the last two where w uses them.
 -- Assumes nothing.
-use mathlib.Core.Path.{_≡_, _∙_}
+use mathlib.Core.Path.{_∙_}
 use denote.Ref.{now}
 use borrow.Author.Needs.{needs}
 use Rattle.sheet.proofs.Reading.{found, read-mark}
