@@ -1,4 +1,4 @@
--- The words of a state stay words of 32 bits: after a step, a round and a chain of rounds, and in the record that a message leads to.
+-- The words of a state stay words of 32 bits: after a step, a round and a chain of rounds.
 -- Assumes nothing.
 use mathlib.Core.Bool.{Bool, true, _&&_}
 use mathlib.Core.List.{List, [], _∷_}
@@ -14,7 +14,7 @@ use Rattle.definition.specs.declared.Pair.{Pair}
 use Rattle.definition.specs.declared.Width.{Width}
 use Rattle.definition.specs.declared.Width.the-variants.{W3, W4, W5}
 use Rattle.definition.specs.Word.{bit, fromBits, rotl}
-use Rattle.definition.specs.Block.{zeroBlock, wordsOf}
+use Rattle.definition.specs.Block.{zeroBlock, wordsOf, wordsOfAll}
 use Rattle.definition.specs.SubCrumb.{S, crumb, subWord, subCrumb}
 use Rattle.definition.specs.MixWord.{mixWord}
 use Rattle.definition.specs.Constant.{constantsFrom, constants}
@@ -25,12 +25,10 @@ use Rattle.definition.specs.Padding.{blocks}
 use Rattle.definition.specs.Start.{blockCount, startingVariables, start}
 use Rattle.definition.specs.State.{five, stateOf}
 use Rattle.definition.specs.Luffa.{widthAt}
-use Rattle.definition.specs.Record.{wordsOfAll}
 use Rattle.definition.proofs.Bits.{bit-lt}
 use Rattle.definition.proofs.Cases.{both-left, both-right, everyBelow, at-below}
 use Rattle.definition.proofs.Chain.{length-inject}
 use Rattle.definition.proofs.Computed.{everything}
-use Rattle.definition.proofs.Feeding.{keptOf}
 
 -- the eight words of a block are words of 32 bits
 pub record Words (b : Block) : Type 0 where
@@ -240,10 +238,3 @@ word-in (more k r) (suc (suc (suc (suc (suc zero))))) = k .w5
 word-in (more k r) (suc (suc (suc (suc (suc (suc zero)))))) = k .w6
 word-in (more k r) (suc (suc (suc (suc (suc (suc (suc zero))))))) = k .w7
 word-in (more k r) (suc (suc (suc (suc (suc (suc (suc (suc i)))))))) = word-in r i
-
--- the state's words in the record that a message leads to
-pub kept-words : (code : ℕ) (x : List ℕ) (i : ℕ) → getD (wordsOfAll (five (keptOf code x .state))) i 0 < 2 ^ 32
-unfolding keptOf
-kept-words code x =
-    let w : Width = widthAt code in
-    word-in (five-words (chain-words w (start w) (blocks x) (start-words w)))

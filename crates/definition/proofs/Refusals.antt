@@ -1,4 +1,4 @@
--- The answer to a call is the first refusal whose condition holds, and a refused call alters nothing: one law for all calls.
+-- The answer to a call is the first refusal whose condition holds: one law for all calls.
 -- Assumes nothing.
 use mathlib.Core.Path.{_≡_, refl}
 use mathlib.Core.Bool.{Bool, true, false}
@@ -6,7 +6,6 @@ use mathlib.Core.List.{List, [], _∷_, _++_}
 use Prim.Native.Nat.{ℕ, suc}
 use native.Mathlib.Omega.{arith}
 use Rattle.definition.specs.Refusal.{Refusal, pick, firstOf}
-use Rattle.definition.specs.Calls.{whenDone, outcome}
 
 -- k is refused first: its condition holds, and none ranked before it
 pub data First (k : ℕ) : List Refusal → Type 0 where
@@ -60,14 +59,3 @@ unfolding firstOf pick
 rest-given ss none e z = refl
 rest-given ss (more {b = true} h) e z = absurd (omega arith)
 rest-given ss (more {b = false} h) e z = rest-given ss h e z
-
--- a refused call's buffer is as at entry; an accepted call's is what the call makes of it
-pub refused : (rs : List Refusal) (done before : List ℕ) (k : ℕ) → firstOf rs ≡ suc k
-    → record { number = suc k; buffer = before } ≡ outcome rs done before
-unfolding outcome whenDone
-refused rs done before k e = rw e
-
-pub accepted : (rs : List Refusal) (done before : List ℕ) → firstOf rs ≡ 0
-    → record { number = 0; buffer = done } ≡ outcome rs done before
-unfolding outcome whenDone
-accepted rs done before e = rw e

@@ -1,12 +1,13 @@
--- Four bytes and a word are each other's reading.
+-- Four bytes and a word are each other's reading; and the bytes of a list of words.
 -- Assumes nothing.
-use mathlib.Core.Path.{_≡_, refl}
-use mathlib.Core.List.{[], _∷_}
+use mathlib.Core.Path.{_≡_, refl, ap, _∙_}
+use mathlib.Core.List.{List, [], _∷_, _++_, append-assoc, append-nil}
 use Prim.Native.Nat.{ℕ, _+_, _*_, _/_, _%_, _^_, _<_}
 use native.Mathlib.Nat.{div-add-mod', mod-eq-of-lt}
 use native.Mathlib.Omega.{arith}
+use lib.ListN.{length}
 use lib.Pow.{shr-shr, shr-lt}
-use Rattle.definition.specs.Word.{wordOf, bytesOf}
+use Rattle.definition.specs.Word.{wordOf, bytesOf, bytesOfAll}
 
 list4 : {a b c d a' b' c' d' : ℕ} → a ≡ a' → b ≡ b' → c ≡ c' → d ≡ d'
     → a ∷ b ∷ c ∷ d ∷ [] ≡ a' ∷ b' ∷ c' ∷ d' ∷ []
@@ -26,3 +27,18 @@ unfolding wordOf
 word-of-bytes a h =
     rw (mod-eq-of-lt (shr-lt {n = a} 8 24 h))
     (rebuilt a (a / 2 ^ 8) (a / 2 ^ 16) (a / 2 ^ 24) refl (shr-shr a 8 8) (shr-shr a 16 8))
+
+-- the bytes of a list of words
+pub length-bytes : (ws : List ℕ) → length (bytesOfAll ws) ≡ 4 * length ws
+unfolding bytesOfAll bytesOf
+length-bytes [] = refl
+length-bytes (a ∷ ws) = omega (arith, length-bytes ws)
+
+pub bytes-append : (vs ws : List ℕ) → bytesOfAll (vs ++ ws) ≡ bytesOfAll vs ++ bytesOfAll ws
+unfolding bytesOfAll
+bytes-append [] ws = refl
+bytes-append (a ∷ vs) ws = rw (bytes-append vs ws, append-assoc (bytesOf a) (bytesOfAll vs) (bytesOfAll ws))
+
+-- and of one word more
+pub bytes-snoc : (ws : List ℕ) (a : ℕ) → bytesOfAll (ws ++ a ∷ []) ≡ bytesOfAll ws ++ bytesOf a
+bytes-snoc ws a = bytes-append ws (a ∷ []) ∙ unfold bytesOfAll in ap (λ (l : List ℕ). bytesOfAll ws ++ l) (append-nil (bytesOf a))

@@ -1,6 +1,6 @@
 -- Blocks of eight words: section 2.2 of the source. The struct itself stands in src/, so that code and definitions share it.
 use Prim.Native.Nat.{ℕ, _+_, _*_}
-use mathlib.Core.List.{List, [], _∷_}
+use mathlib.Core.List.{List, [], _∷_, _++_}
 use lib.Bits.{bitXor}
 use lib.ListN.{getD}
 use Rattle.definition.specs.declared.Block.{Block}
@@ -33,6 +33,11 @@ xorAll (b ∷ bs) = b ⊕ xorAll bs
 -- 2.2: the words of a block in order
 unfoldable pub wordsOf : Block → List ℕ
 wordsOf b = b .a0 ∷ b .a1 ∷ b .a2 ∷ b .a3 ∷ b .a4 ∷ b .a5 ∷ b .a6 ∷ b .a7 ∷ []
+
+-- the words of a list of blocks, one block after the other
+unfoldable pub wordsOfAll : List Block → List ℕ
+wordsOfAll [] = []
+wordsOfAll (b ∷ bs) = wordsOf b ++ wordsOfAll bs
 
 -- 2.2: word k of a string of bytes, x_4k || x_4k+1 || x_4k+2 || x_4k+3
 unfoldable pub wordAt : List ℕ → ℕ → ℕ

@@ -1,4 +1,4 @@
--- What a call leaves in a buffer, some elements written at a place, the others as they were; and whether two buffers hold the same.
+-- What a call leaves in a buffer, some elements written at a place, the others as they were; whether two buffers hold the same, and pieces joined.
 use Prim.Native.Nat.{ℕ, _+_}
 use mathlib.Core.List.{List, [], _∷_, _++_}
 use mathlib.Core.Bool.{Bool, true, false, _&&_}
@@ -19,3 +19,8 @@ same [] [] = true
 same [] (y ∷ ys) = false
 same (x ∷ xs) [] = false
 same (x ∷ xs) (y ∷ ys) = eqb x y && same xs ys
+
+-- the pieces one after the other
+unfoldable pub joined : List (List ℕ) → List ℕ
+joined [] = []
+joined (p ∷ ps) = p ++ joined ps

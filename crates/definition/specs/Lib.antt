@@ -1,4 +1,5 @@
--- Luffa 2.0.1 as the source defines it, and document 01's hash record, sheet and calls. A file for each part, in the source's order.
+-- Luffa 2.0.1 as the source defines it, and what every call's definition rests on: buffers and refusals. A file for each part, in the
+-- source's order.
 pub mod Word
 pub mod Block
 pub mod Field
@@ -16,13 +17,6 @@ pub mod Counted
 pub mod Luffa
 pub mod Buffer
 pub mod Refusal
-pub mod Record
-pub mod Calls
-pub mod Lent
-pub mod Sheet
-pub mod Marks
-pub mod SheetCalls
-pub mod Run
 pub mod AppendixB
 pub mod AppendixD
 pub mod AppendixE

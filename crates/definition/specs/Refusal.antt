@@ -1,6 +1,6 @@
 -- Refusals by number: document 01, "Refusal numbers". A call's order of refusals is a list of numbers with their conditions; the answer is
 -- the first whose condition holds, and 0 where none does.
-use Prim.Native.Nat.{ℕ}
+use Prim.Native.Nat.{ℕ, zero, suc}
 use mathlib.Core.Bool.{Bool, true, false, not, _&&_}
 use mathlib.Core.List.{List, [], _∷_}
 use lib.Dec.{leb, ltb}
@@ -53,6 +53,11 @@ pick false a b = b
 unfoldable pub firstOf : List Refusal → ℕ
 firstOf [] = DONE
 firstOf (r ∷ rs) = pick (r .1) (r .0) (firstOf rs)
+
+-- the first where the number is 0, else the second: what a call that is done leaves, and one that is refused
+unfoldable pub whenDone {ℓ} : {A : Type ℓ} → ℕ → A → A → A
+whenDone zero a b = a
+whenDone (suc n) a b = b
 
 -- a code is known when it is 1 to 4
 unfoldable pub known : ℕ → Bool

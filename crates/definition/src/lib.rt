@@ -49,26 +49,3 @@ pub struct Counted {
     pub state: State,
     pub rounds: u64,
 }
-
-// The kept hash record by value: its code, state, pending bytes and the bytes fed so far (document 01, "The kept hash record").
-#[repr(C)]
-pub struct Kept {
-    pub code: usize,
-    pub state: State,
-    pub pending: [u8; 32],
-    pub count: u64,
-}
-
-// What a call over a lent working state answers, by value: the refusal number or 0, and the working state as it is at the end.
-pub struct Lent {
-    pub number: u32,
-    pub kept: Kept,
-}
-
-// What a sheet call answers: the refusal number or 0, the records of the sheet, and the rounds run (document 01, "Sheet and marks").
-#[repr(C)]
-pub struct Answer {
-    pub number: u64,
-    pub count: u64,
-    pub rounds: u64,
-}

@@ -9,7 +9,7 @@ use native.Mathlib.Omega.{arith}
 use lib.ListN.{length, take, drop, replicate, length-append, length-drop, take-append-drop, drop-of-length-le}
 use lib.Seq.{length-take-le, drop-drop, drop-append-add}
 use Rattle.definition.specs.declared.Block.{Block}
-use Rattle.definition.specs.declared.Kept.{Kept}
+use Rattle.hash_definition.specs.declared.Kept.{Kept}
 use Rattle.definition.specs.declared.State.{State}
 use Rattle.definition.specs.declared.Width.{Width}
 use Rattle.definition.specs.Round.{chain}
@@ -17,10 +17,10 @@ use Rattle.definition.specs.Padding.{blocks, rest}
 use Rattle.definition.specs.State.{blocksIn, stateOf}
 use Rattle.definition.specs.Buffer.{overwriteAt}
 use Rattle.definition.specs.Luffa.{widthAt}
-use Rattle.definition.specs.Record.{allZero, filled, pendingCount, pendingBytes, wellKept, fed}
+use Rattle.hash_definition.specs.Record.{allZero, filled, pendingCount, pendingBytes, wellKept, fed}
 use Rattle.definition.proofs.Chain.{chain-append, length-chain, length-blocksIn, blocks-of-state}
 use Rattle.definition.proofs.Padding.{blocks-none, blocks-append, rest-short}
-use Rattle.definition.proofs.Feeding.{zeros, well-kept}
+use Rattle.hash_definition.proofs.Feeding.{zeros, well-kept}
 
 -- nothing pending, and so no front
 pub empty-front : (w : Width) (s : State) (p front : List ℕ) (pos : ℕ) → pos ≡ 0 → length front ≡ (32 - pos) % 32

@@ -7,17 +7,16 @@ use native.Mathlib.Nat.{mod-lt, zero-lt-suc}
 use native.Mathlib.Omega.{arith}
 use borrow.Author.Tests.{le-leb}
 use lib.ListN.{length, take, drop, replicate, length-append, length-drop, drop-of-length-le}
-use Rattle.definition.specs.declared.Kept.{Kept}
+use Rattle.hash_definition.specs.declared.Kept.{Kept}
 use Rattle.definition.specs.Word.{wordOf, bytesOf, bytesOfAll}
-use Rattle.definition.specs.Block.{blockOf, wordAt, wordsOf}
+use Rattle.definition.specs.Block.{blockOf, wordAt, wordsOf, wordsOfAll}
 use Rattle.definition.specs.State.{five}
 use Rattle.definition.specs.Buffer.{overwriteAt}
-use Rattle.rounds.specs.Total.{blockWhen, firstBlock, wordWhen, firstWord, writeAt}
-use Rattle.definition.specs.Record.{wordsOfAll, countWords, encode}
-use Rattle.definition.proofs.Word.{bytes-of-word}
-use Rattle.rounds.proofs.Total.{write-at, writeAt-more}
-use Rattle.rounds.proofs.Parts.{part-rest}
-use Rattle.definition.proofs.Records.{length-bytes}
+use Rattle.bytes.specs.Total.{blockWhen, firstBlock, wordWhen, firstWord, writeAt}
+use Rattle.hash_definition.specs.Record.{countWords, encode}
+use Rattle.definition.proofs.Word.{bytes-of-word, length-bytes}
+use Rattle.bytes.proofs.Total.{write-at, writeAt-more}
+use Rattle.bytes.proofs.Parts.{part-rest}
 
 -- a block and a word read from a part
 pub part-block : (b : List ℕ) (n : ℕ) → n + 32 ≤ length b → firstBlock (take (length b - n) (drop n b)) ≡ blockOf (drop n b)

@@ -8,7 +8,7 @@ use native.Mathlib.Omega.{arith}
 use lib.ListN.{length, take, drop, length-drop}
 use lib.Seq.{take-all}
 use lib.Dec.{eqb}
-use Rattle.definition.specs.Record.{allZero}
+use Rattle.hash_definition.specs.Record.{allZero}
 
 pub and-true : (b : Bool) → b && true ≡ b
 and-true true = refl

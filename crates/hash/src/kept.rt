@@ -4,23 +4,23 @@ ghost use mathlib.Core.Bool.{true};
 ghost use mathlib.Core.List.{_++_};
 ghost use Prim.Native.Nat.{_+_, _-_, _%_, _<_, _≤_};
 ghost use lib.ListN.{length, take, drop};
-ghost use Rattle.definition.specs.Block.{wordsOf};
+ghost use Rattle.definition.specs.Block.{wordsOf, wordsOfAll};
 ghost use Rattle.definition.specs.Round.{chain};
 ghost use Rattle.definition.specs.Padding.{blocks};
 ghost use Rattle.definition.specs.Start.{blockCount};
 ghost use Rattle.definition.specs.State.{five, blocksIn, stateOf};
-ghost use Rattle.definition.specs.Record.{allZero, wordsOfAll, limit, wellKept, started as startedOf, fed as fedOf};
+ghost use Rattle.hash_definition.specs.Record.{allZero, limit, wellKept, started as startedOf, fed as fedOf};
 use definition::Block;
 use definition::Counted;
-use definition::Kept;
 use definition::State;
 use definition::Width;
+use hash_definition::Kept;
 
 // A record to begin with.
 pub(crate) fn started(code: usize) -> Kept
     ensures { λ r. ⌜ r ≡ startedOf code ⌝ }
 {
-    let w = rounds::codes::width(code);
+    let w = codes::width(code);
     Kept {
         code: code,
         state: rounds::start(w),
@@ -81,11 +81,11 @@ pub(crate) fn well_kept(k: Kept) -> bool
     ensures { λ r. ⌜ r ≡ wellKept k ⌝ }
 {
     let code = k.code;
-    if !rounds::codes::known(code) {
+    if !codes::known(code) {
         return false;
     }
     let s = k.state;
-    if !unused_zero(rounds::codes::width(code), s) {
+    if !unused_zero(codes::width(code), s) {
         return false;
     }
     let p = k.pending;
@@ -102,7 +102,7 @@ fn completed(w: Width, s: State, p: [u8; 32], pos: usize, front: &[u8]) -> State
     ensures { λ r. ⌜ r ≡ stateOf (chain w (blocksIn w s) (blocks (take pos p ++ now (front .entry)))) ⌝ }
 {
     if pos == 0 {
-        return permutation::used(w, s);
+        return blocks::used(w, s);
     }
     let q = crate::record::pasted(p, pos, front);
     let c = Counted {
@@ -119,14 +119,14 @@ pub(crate) fn fed(k: Kept, piece: &[u8]) -> Kept
     ensures { λ r. ⌜ r ≡ fedOf k (now (piece .entry)) ⌝ }
 {
     let code = k.code;
-    let w = rounds::codes::width(code);
+    let w = codes::width(code);
     let s = k.state;
     let p = k.pending;
     let pos = (k.count % 32) as usize;
     let n = piece.len();
     let count = k.count + n as u64;
     if n < 32 - pos {
-        let state = permutation::used(w, s);
+        let state = blocks::used(w, s);
         let pending = crate::record::pasted(p, pos, piece);
         return Kept {
             code: code,

@@ -2,16 +2,16 @@
 // paragraph). Each of the three reads the struct, has the answer worked out by value, and stores the struct that the answer holds.
 ghost use mathlib.Core.Path.{_≡_};
 ghost use lib.ListN.{length};
-ghost use Rattle.definition.specs.Lent.{lentStartOutcome, lentFeedOutcome, lentFinishOutcome};
+ghost use Rattle.hash_definition.specs.Lent.{lentStartOutcome, lentFeedOutcome, lentFinishOutcome};
 use definition::Counted;
-use definition::Kept;
-use definition::Lent;
+use hash_definition::Kept;
+use hash_definition::Lent;
 
 // The answer to a start, and the working state that it leaves.
 pub(crate) fn started_answer(code: usize, k: Kept) -> Lent
     ensures { λ r. ⌜ r ≡ lentStartOutcome code k ⌝ }
 {
-    if !rounds::codes::known(code) {
+    if !codes::known(code) {
         return Lent {
             number: crate::WIDTH,
             kept: k,
@@ -55,11 +55,11 @@ pub(crate) fn finished_answer(k: Kept, out: &mut [u8]) -> u32
         return crate::RECORD;
     }
     let code = k.code;
-    let words = rounds::codes::words(code);
+    let words = codes::words(code);
     if out.len() < 4 * words {
         return crate::OUT;
     }
-    let w = rounds::codes::width(code);
+    let w = codes::width(code);
     let s = k.state;
     let c = Counted {
         state: s,
@@ -68,7 +68,7 @@ pub(crate) fn finished_answer(k: Kept, out: &mut [u8]) -> u32
     let p = k.pending;
     let pos = (k.count % 32) as usize;
     let d = rounds::last::absorb_last(w, c, &p[..pos]);
-    rounds::squeeze::squeeze(w, d, words, out);
+    squeeze::squeeze(w, d, words, out);
     crate::DONE
 }
 

@@ -5,7 +5,7 @@ pub mod lent;
 mod record;
 
 ghost use mathlib.Core.Path.{_≡_};
-ghost use Rattle.definition.specs.Calls.{digestOutcome, startOutcome, feedOutcome, finishOutcome};
+ghost use Rattle.hash_definition.specs.Calls.{digestOutcome, startOutcome, feedOutcome, finishOutcome};
 use definition::Counted;
 
 // The refusal numbers of document 01.
@@ -23,23 +23,23 @@ pub const LONG: u32 = 4;
 pub fn digest(code: usize, message: &[u8], out: &mut [u8]) -> u32
     ensures { λ r. ⌜ record { number = r; buffer = now (out .exit) } ≡ digestOutcome code (now (message .entry)) (now (out .entry)) ⌝ }
 {
-    if !rounds::codes::known(code) {
+    if !codes::known(code) {
         return WIDTH;
     }
-    let words = rounds::codes::words(code);
+    let words = codes::words(code);
     if out.len() < 4 * words {
         return OUT;
     }
     if record::LIMIT < message.len() {
         return LONG;
     }
-    let w = rounds::codes::width(code);
+    let w = codes::width(code);
     let c = Counted {
         state: rounds::start(w),
         rounds: 0,
     };
     let d = rounds::last::absorb_last(w, c, message);
-    rounds::squeeze::squeeze(w, d, words, out);
+    squeeze::squeeze(w, d, words, out);
     DONE
 }
 
@@ -47,7 +47,7 @@ pub fn digest(code: usize, message: &[u8], out: &mut [u8]) -> u32
 pub fn start(code: usize, record: &mut [u8]) -> u32
     ensures { λ r. ⌜ record { number = r; buffer = now («record» .exit) } ≡ startOutcome code (now («record» .entry)) ⌝ }
 {
-    if !rounds::codes::known(code) {
+    if !codes::known(code) {
         return WIDTH;
     }
     if record.len() != record::LENGTH {

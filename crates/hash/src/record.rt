@@ -3,9 +3,9 @@ ghost use mathlib.Core.Path.{_≡_};
 ghost use Prim.Native.Nat.{_+_, _<_, _≤_};
 ghost use lib.ListN.{length};
 ghost use Rattle.definition.specs.Buffer.{overwriteAt};
-ghost use Rattle.definition.specs.Record.{recordLength, allZero, encode as encodeOf, decode as decodeOf, wellFormed};
-use definition::Kept;
+ghost use Rattle.hash_definition.specs.Record.{recordLength, allZero, encode as encodeOf, decode as decodeOf, wellFormed};
 use definition::State;
+use hash_definition::Kept;
 
 // The house limit on the bytes of a message, 2^61 - 1.
 pub(crate) const LIMIT: usize = 2305843009213693951;
@@ -39,7 +39,7 @@ pub(crate) fn pasted(p: [u8; 32], at: usize, t: &[u8]) -> [u8; 32]
     ensures { λ r. ⌜ r ≡ overwriteAt at (now (t .entry)) p ⌝ }
 {
     let mut q = p;
-    rounds::bytes::put_bytes(&mut q, at, t);
+    bytes::put_bytes(&mut q, at, t);
     q
 }
 
@@ -56,11 +56,11 @@ fn state_in(b: &[u8]) -> State
     ensures { λ r. ⌜ r ≡ decodeOf (now (b .entry)) .state ⌝ }
 {
     State {
-        h0: rounds::bytes::block(&b[STATE_AT..]),
-        h1: rounds::bytes::block(&b[STATE_AT + 32..]),
-        h2: rounds::bytes::block(&b[STATE_AT + 64..]),
-        h3: rounds::bytes::block(&b[STATE_AT + 96..]),
-        h4: rounds::bytes::block(&b[STATE_AT + 128..]),
+        h0: bytes::block(&b[STATE_AT..]),
+        h1: bytes::block(&b[STATE_AT + 32..]),
+        h2: bytes::block(&b[STATE_AT + 64..]),
+        h3: bytes::block(&b[STATE_AT + 96..]),
+        h4: bytes::block(&b[STATE_AT + 128..]),
     }
 }
 
@@ -75,8 +75,8 @@ fn count_in(b: &[u8]) -> u64
     requires { ⌜ length (now b) ≡ recordLength ⌝ }
     ensures { λ r. ⌜ r ≡ decodeOf (now (b .entry)) .count ⌝ }
 {
-    let high = rounds::bytes::first_word(&b[COUNT_AT..]);
-    let low = rounds::bytes::first_word(&b[COUNT_AT + 4..]);
+    let high = bytes::first_word(&b[COUNT_AT..]);
+    let low = bytes::first_word(&b[COUNT_AT + 4..]);
     (high as u64) * 4294967296 + (low as u64)
 }
 
@@ -151,10 +151,10 @@ pub(crate) fn encode(k: Kept, b: &mut [u8])
     ];
     let high = (k.count / 4294967296) as u32;
     let low = (k.count % 4294967296) as u32;
-    rounds::bytes::put_words(b, 0, &front);
+    bytes::put_words(b, 0, &front);
     let pending = k.pending;
-    rounds::bytes::put_bytes(b, PENDING_AT, &pending);
-    rounds::bytes::put_words(b, COUNT_AT, &[high, low]);
+    bytes::put_bytes(b, PENDING_AT, &pending);
+    bytes::put_words(b, COUNT_AT, &[high, low]);
 }
 
 // Whether a record is well formed.

@@ -6,25 +6,11 @@ ghost use Rattle.definition.specs.Field.{double as doubleOf};
 ghost use Rattle.definition.specs.Injection.{inject as injectOf};
 ghost use Rattle.definition.specs.State.{blocksIn, stateOf};
 ghost use Rattle.definition.specs.declared.Width.the-variants.{W3, W4, W5};
+use blocks::xor;
+use blocks::zero;
 use definition::Block;
 use definition::State;
 use definition::Width;
-
-// XOR, word by word.
-pub fn xor(a: Block, b: Block) -> Block
-    ensures { λ r. ⌜ r ≡ a ⊕ b ⌝ }
-{
-    Block {
-        a0: a.a0 ^ b.a0,
-        a1: a.a1 ^ b.a1,
-        a2: a.a2 ^ b.a2,
-        a3: a.a3 ^ b.a3,
-        a4: a.a4 ^ b.a4,
-        a5: a.a5 ^ b.a5,
-        a6: a.a6 ^ b.a6,
-        a7: a.a7 ^ b.a7,
-    }
-}
 
 // Multiplication by 0x02 (3.2).
 pub fn double(a: Block) -> Block
@@ -39,22 +25,6 @@ pub fn double(a: Block) -> Block
         a5: a.a4,
         a6: a.a5,
         a7: a.a6,
-    }
-}
-
-// The block of zeros.
-pub fn zero() -> Block
-    ensures { λ r. ⌜ r ≡ Rattle.definition.specs.Block.zeroBlock ⌝ }
-{
-    Block {
-        a0: 0,
-        a1: 0,
-        a2: 0,
-        a3: 0,
-        a4: 0,
-        a5: 0,
-        a6: 0,
-        a7: 0,
     }
 }
 

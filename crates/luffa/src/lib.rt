@@ -1,11 +1,11 @@
 // Everything that C can call, and nothing else: thin exports, each with the contract of the function that it calls. include/luffa.h declares
 // them; a slice is a pointer and then a length.
 ghost use mathlib.Core.Path.{_≡_};
-ghost use Rattle.definition.specs.Calls.{digestOutcome, startOutcome, feedOutcome, finishOutcome};
-ghost use Rattle.definition.specs.Lent.{lentStartOutcome, lentFeedOutcome, lentFinishOutcome};
-ghost use Rattle.definition.specs.SheetCalls.{buildOutcome, changeOutcome, appendOutcome, dropOutcome};
-use definition::Answer;
-use definition::Kept;
+ghost use Rattle.hash_definition.specs.Calls.{digestOutcome, startOutcome, feedOutcome, finishOutcome};
+ghost use Rattle.hash_definition.specs.Lent.{lentStartOutcome, lentFeedOutcome, lentFinishOutcome};
+ghost use Rattle.sheet_definition.specs.SheetCalls.{buildOutcome, changeOutcome, appendOutcome, dropOutcome};
+use hash_definition::Kept;
+use sheet_definition::Answer;
 
 // The digest of a message in one call.
 #[no_mangle]

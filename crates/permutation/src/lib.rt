@@ -247,34 +247,6 @@ fn all_steps(fifth: bool, t: State) -> State
     }
 }
 
-// A state with the blocks that w doesn't use zero.
-pub fn used(w: Width, s: State) -> State
-    ensures { λ r. ⌜ r ≡ stateOf (blocksIn w s) ⌝ }
-{
-    let h0 = s.h0;
-    let h1 = s.h1;
-    let h2 = s.h2;
-    let h3 = s.h3;
-    let zero = injection::zero();
-    match w {
-        Width::W3 => State {
-            h0: h0,
-            h1: h1,
-            h2: h2,
-            h3: zero,
-            h4: zero,
-        },
-        Width::W4 => State {
-            h0: h0,
-            h1: h1,
-            h2: h2,
-            h3: h3,
-            h4: zero,
-        },
-        Width::W5 => s,
-    }
-}
-
 // Whether there is a fifth block.
 fn has_fifth(w: Width) -> bool
     ensures { λ r. ⌜ r ≡ hasFifth w ⌝ }
@@ -302,5 +274,5 @@ pub fn permute(w: Width, s: State) -> State
         h3: h3,
         h4: h4,
     };
-    used(w, all_steps(has_fifth(w), t))
+    blocks::used(w, all_steps(has_fifth(w), t))
 }

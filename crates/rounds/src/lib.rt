@@ -1,9 +1,6 @@
-// Luffa's rounds: the round with its count, whole blocks from a byte slice, the padded end of a message, and the final stage (source, 3.1 to
-// 3.3). Every round is run by counted_round.
-pub mod bytes;
-pub mod codes;
+// Luffa's rounds: the starting state, the round with its count, whole blocks from a byte slice, and the padded end of a message (source, 3.1
+// and 3.2). Every round is run by counted_round.
 pub mod last;
-pub mod squeeze;
 
 ghost use mathlib.Core.Path.{_≡_};
 ghost use Rattle.definition.specs.State.{blocksIn, stateOf};
@@ -78,7 +75,7 @@ fn starting_variables() -> State
 pub fn start(w: Width) -> State
     ensures { λ r. ⌜ r ≡ stateOf (startOf w) ⌝ }
 {
-    permutation::used(w, starting_variables())
+    blocks::used(w, starting_variables())
 }
 
 // The round function: injection, then permutation.
@@ -107,13 +104,13 @@ pub fn absorb(w: Width, c: Counted, s: &[u8]) -> Counted
     let mut t = s;
     let mut d = c;
     while 32 <= t.len() {
-        let m = bytes::full_block(t);
+        let m = bytes::block(t);
         d = counted_round(w, d, m);
         t = &t[32..];
     }
     let h = d.state;
     Counted {
-        state: permutation::used(w, h),
+        state: blocks::used(w, h),
         rounds: d.rounds,
     }
 }

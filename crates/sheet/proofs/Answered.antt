@@ -11,16 +11,15 @@ use Rattle.definition.specs.Start.{start}
 use Rattle.definition.specs.Luffa.{widthAt}
 use Rattle.definition.specs.Buffer.{overwrite}
 use Rattle.definition.specs.Final.{finalRounds}
-use Rattle.definition.specs.Refusal.{STALE, pick, firstOf}
-use Rattle.definition.specs.Sheet.{q, r, F, checkRounds, buildRefusals}
-use Rattle.definition.specs.Marks.{markOf, worked}
-use Rattle.definition.specs.SheetCalls.{refusedWith, acceptedWith, sheetOutcome, buildOutcome}
-use Rattle.definition.specs.Run.{World, Call, call, outOf, placeOf, countOf, refusalsOf}
-use Rattle.definition.specs.Calls.{whenDone}
-use Rattle.definition.proofs.Outcomes.{by-number}
-use Rattle.definition.proofs.Saves.{sheetOf, marksOf, staleOf, checkOf}
+use Rattle.definition.specs.Refusal.{STALE, pick, firstOf, whenDone}
+use Rattle.sheet_definition.specs.Sheet.{q, r, F, checkRounds, buildRefusals}
+use Rattle.sheet_definition.specs.Marks.{markOf, worked}
+use Rattle.sheet_definition.specs.SheetCalls.{refusedWith, acceptedWith, sheetOutcome, buildOutcome}
+use Rattle.sheet_definition.specs.Run.{World, Call, call, outOf, placeOf, countOf, refusalsOf}
+use Rattle.sheet_definition.proofs.Outcomes.{by-number}
+use Rattle.sheet_definition.proofs.Saves.{sheetOf, marksOf, staleOf, checkOf}
 use Rattle.definition.proofs.Codes.{words-le}
-use Rattle.definition.proofs.Answers.{check-rounds, accepted-first}
+use Rattle.sheet_definition.proofs.Answers.{check-rounds, accepted-first}
 
 pub put-together : (w : World) (c : Call) (check rounds : ℕ) (sheet marks₀ marks out : List ℕ) → firstOf (refusalsOf w c false) ≡ 0
     → staleOf w c ≡ false → check ≡ checkOf w → sheet ≡ sheetOf w c → marks₀ ≡ marksOf w c

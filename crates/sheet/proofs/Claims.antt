@@ -10,8 +10,8 @@ use lib.ListN.{length, getD, take, drop, length-append}
 use lib.Seq.{length-take-le, take-at, getD-take, drop-cons}
 use Rattle.definition.specs.Luffa.{bytesAt}
 use Rattle.definition.specs.Buffer.{overwrite, same}
-use Rattle.definition.specs.Marks.{worked}
-use Rattle.definition.proofs.Writes.{length-digest}
+use Rattle.sheet_definition.specs.Marks.{worked}
+use Rattle.sheet_definition.proofs.Writes.{length-digest}
 
 -- what is left, byte by byte
 pub left : (x d : List ℕ) (i : ℕ) → i < length x → length x ≤ length d

@@ -12,7 +12,7 @@ use Rattle.definition.specs.declared.State.{State}
 use Rattle.definition.specs.declared.Width.{Width}
 use Rattle.definition.specs.declared.Width.the-variants.{W3, W4, W5}
 use Rattle.definition.specs.Word.{bytesOfAll}
-use Rattle.definition.specs.Block.{zeroBlock, wordsOf}
+use Rattle.definition.specs.Block.{zeroBlock, wordsOf, wordsOfAll}
 use Rattle.definition.specs.Round.{chain}
 use Rattle.definition.specs.Padding.{closing, padded, blocks}
 use Rattle.definition.specs.Start.{blockCount}
@@ -21,16 +21,15 @@ use Rattle.definition.specs.Final.{final, finalRounds}
 use Rattle.definition.specs.Counted.{countedChain}
 use Rattle.definition.specs.Luffa.{widthAt, wordsAt, bytesAt}
 use Rattle.definition.specs.Buffer.{overwriteAt}
-use Rattle.definition.specs.Record.{wordsOfAll}
-use Rattle.definition.specs.Sheet.{q}
-use Rattle.definition.specs.Marks.{held, markAt, stateFrom, markOf, marksAfter, digestAfter, roundsAfter, worked}
+use Rattle.sheet_definition.specs.Sheet.{q}
+use Rattle.sheet_definition.specs.Marks.{held, markAt, stateFrom, markOf, marksAfter, digestAfter, roundsAfter, worked}
 use Rattle.definition.proofs.Buffer.{overwriteAt-more, overwriteAt-none, length-overwriteAt}
 use Rattle.definition.proofs.Chain.{counted-append, counted-state, counted-blocks, counted-rounds}
 use Rattle.definition.proofs.Codes.{words-le}
 use Rattle.definition.proofs.Padding.{blocks-append}
-use Rattle.definition.proofs.Writes.{drop-take}
-use Rattle.definition.proofs.Marks.{padded-append, padded-blocks, length-mark}
-use Rattle.rounds.proofs.Digests.{all-words, squeezed-out}
+use Rattle.sheet_definition.proofs.Writes.{drop-take}
+use Rattle.sheet_definition.proofs.Marks.{padded-append, padded-blocks, length-mark}
+use Rattle.squeeze.proofs.Digests.{all-words, squeezed-out}
 
 -- the records held from place i on, where they lie in the sheet
 from-place : (i j : ℕ) (l : List ℕ) → i ≤ j → take (j - i) (drop i l) ≡ drop i (take j l)

@@ -4,7 +4,7 @@ use mathlib.Core.Path.{_≡_, sym, _∙_}
 use mathlib.Core.List.{List, _++_}
 use Prim.Native.Nat.{ℕ}
 use Rattle.definition.specs.Refusal.{Refusal, firstOf, widthRefusal, outRefusal}
-use Rattle.definition.specs.Sheet.{sheetRefusal, marksRefusal, buildRefusals}
+use Rattle.sheet_definition.specs.Sheet.{sheetRefusal, marksRefusal, buildRefusals}
 use Rattle.definition.proofs.Refusals.{Numbered, none, more, front-given, rest-given}
 
 module _ (code sheet n marks out : ℕ) where

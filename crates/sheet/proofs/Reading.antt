@@ -14,7 +14,7 @@ use Rattle.definition.specs.declared.Width.{Width}
 use Rattle.definition.specs.declared.Width.the-variants.{W3, W4, W5}
 use Rattle.definition.specs.Start.{blockCount}
 use Rattle.definition.specs.State.{stateOf}
-use Rattle.definition.specs.Marks.{markAt, blockFrom, stateFrom}
+use Rattle.sheet_definition.specs.Marks.{markAt, blockFrom, stateFrom}
 use Rattle.sheet.specs.Used.{whenUsed}
 
 -- eight words from place i on

@@ -4,7 +4,7 @@ ghost use mathlib.Core.Path.{_≡_};
 ghost use mathlib.Core.Bool.{false};
 ghost use mathlib.Core.List.{[], _∷_};
 ghost use Rattle.definition.specs.Refusal.{STALE as STALE', firstOf};
-ghost use Rattle.definition.specs.Sheet.{sizeRefusal, claimRefusal, buildRefusals, changeRefusals, appendRefusals, dropRefusals};
+ghost use Rattle.sheet_definition.specs.Sheet.{sizeRefusal, claimRefusal, buildRefusals, changeRefusals, appendRefusals, dropRefusals};
 
 // The most records of a sheet, and the bytes of a record.
 const MOST: usize = 1024;
@@ -15,10 +15,10 @@ pub(crate) const RECORD: usize = 40;
 pub(crate) fn build(code: usize, sheet: usize, n: usize, marks: usize, out: usize) -> u64
     ensures { λ r. ⌜ r ≡ firstOf (buildRefusals code sheet n marks out) ⌝ }
 {
-    if !rounds::codes::known(code) {
+    if !codes::known(code) {
         return crate::WIDTH;
     }
-    if out < 4 * rounds::codes::words(code) {
+    if out < 4 * codes::words(code) {
         return crate::OUT;
     }
     if MOST < n {
@@ -37,7 +37,7 @@ pub(crate) fn build(code: usize, sheet: usize, n: usize, marks: usize, out: usiz
 fn claimed(code: usize, claim: usize) -> u64
     ensures { λ r. ⌜ r ≡ firstOf (claimRefusal code claim ∷ (STALE', false) ∷ []) ⌝ }
 {
-    if claim != 4 * rounds::codes::words(code) {
+    if claim != 4 * codes::words(code) {
         return crate::CLAIM;
     }
     crate::DONE

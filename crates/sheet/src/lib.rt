@@ -5,8 +5,8 @@ mod mark;
 mod onward;
 
 ghost use mathlib.Core.Path.{_≡_};
-ghost use Rattle.definition.specs.SheetCalls.{buildOutcome, changeOutcome, appendOutcome, dropOutcome};
-use definition::Answer;
+ghost use Rattle.sheet_definition.specs.SheetCalls.{buildOutcome, changeOutcome, appendOutcome, dropOutcome};
+use sheet_definition::Answer;
 
 // The refusal numbers of document 01.
 pub const DONE: u64 = 0;
@@ -41,7 +41,7 @@ pub fn build(code: usize, sheet: &[u8], n: usize, marks: &mut [u32], out: &mut [
             rounds: 0,
         };
     }
-    mark::write(marks, 0, rounds::start(rounds::codes::width(code)));
+    mark::write(marks, 0, rounds::start(codes::width(code)));
     let rounds = onward::work_on(code, sheet, n, marks, 0, 0, out);
     Answer {
         number: DONE,
@@ -88,7 +88,7 @@ pub fn change(
             rounds: k.rounds,
         };
     }
-    rounds::bytes::put_bytes(sheet, judge::RECORD * place, record);
+    bytes::put_bytes(sheet, judge::RECORD * place, record);
     let rounds = onward::work_on(code, sheet, n, marks, place / 4, k.rounds, out);
     Answer {
         number: DONE,
@@ -133,7 +133,7 @@ pub fn append(
             rounds: k.rounds,
         };
     }
-    rounds::bytes::put_bytes(sheet, judge::RECORD * n, record);
+    bytes::put_bytes(sheet, judge::RECORD * n, record);
     let rounds = onward::work_on(code, sheet, n + 1, marks, n / 4, k.rounds, out);
     Answer {
         number: DONE,
@@ -169,7 +169,7 @@ pub fn drop(
             rounds: k.rounds,
         };
     }
-    rounds::bytes::put_bytes(sheet, judge::RECORD * (n - 1), &[0u8; 40]);
+    bytes::put_bytes(sheet, judge::RECORD * (n - 1), &[0u8; 40]);
     mark::clear(marks, n);
     let rounds = onward::work_on(code, sheet, n - 1, marks, (n - 1) / 4, k.rounds, out);
     Answer {

@@ -5,10 +5,10 @@ ghost use lib.ListN.{length, drop};
 ghost use Rattle.definition.specs.Start.{blockCount};
 ghost use Rattle.definition.specs.State.{five, stateOf};
 ghost use Rattle.definition.specs.Buffer.{overwriteAt};
-ghost use Rattle.definition.specs.Record.{wordsOfAll};
-ghost use Rattle.definition.specs.Sheet.{zeroed};
-ghost use Rattle.definition.specs.Marks.{blockFrom, markAt, stateFrom};
-ghost use Rattle.definition.specs.SheetCalls.{zeroMarks};
+ghost use Rattle.definition.specs.Block.{wordsOfAll};
+ghost use Rattle.sheet_definition.specs.Sheet.{zeroed};
+ghost use Rattle.sheet_definition.specs.Marks.{blockFrom, markAt, stateFrom};
+ghost use Rattle.sheet_definition.specs.SheetCalls.{zeroMarks};
 ghost use Rattle.sheet.specs.Used.{whenUsed};
 use definition::Block;
 use definition::State;
@@ -42,18 +42,7 @@ fn block_when(used: bool, marks: &[u32], i: usize) -> Block
     if used {
         return block_at(marks, i);
     }
-    injection::zero()
-}
-
-// The number w.
-fn count(w: Width) -> usize
-    ensures { λ r. ⌜ r ≡ blockCount w ⌝ }
-{
-    match w {
-        Width::W3 => 3,
-        Width::W4 => 4,
-        Width::W5 => 5,
-    }
+    blocks::zero()
 }
 
 // The state that mark m holds.
@@ -62,7 +51,7 @@ pub(crate) fn read(w: Width, marks: &[u32], m: usize) -> State
     ensures { λ r. ⌜ r ≡ stateOf (stateFrom w (markAt (now (marks .entry)) m)) ⌝ }
 {
     let i = WORDS * m;
-    let k = count(w);
+    let k = blocks::count(w);
     State {
         h0: block_at(marks, i),
         h1: block_at(marks, i + 8),

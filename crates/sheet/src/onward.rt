@@ -6,9 +6,9 @@ ghost use Prim.Native.Nat.{_+_, _*_, _^_, _<_, _≤_};
 ghost use lib.ListN.{length, take};
 ghost use Rattle.definition.specs.Luffa.{bytesAt};
 ghost use Rattle.definition.specs.Buffer.{overwrite, same};
-ghost use Rattle.definition.specs.Sheet.{most, q};
-ghost use Rattle.definition.specs.Marks.{worked};
-ghost use Rattle.definition.specs.SheetCalls.{checked, stale};
+ghost use Rattle.sheet_definition.specs.Sheet.{most, q};
+ghost use Rattle.sheet_definition.specs.Marks.{worked};
+ghost use Rattle.sheet_definition.specs.SheetCalls.{checked, stale};
 use definition::Counted;
 
 // The bytes of a group: four records, five message blocks.
@@ -30,7 +30,7 @@ pub(crate) fn work_on(
     ensures { λ r. ⌜ now (marks .exit) ≡ worked code n (now (sheet .entry)) (now (marks .entry)) m .marks ⌝ }
     ensures { λ r. ⌜ now (out .exit) ≡ overwrite (worked code n (now (sheet .entry)) (now (marks .entry)) m .digest) (now (out .entry)) ⌝ }
 {
-    let w = rounds::codes::width(code);
+    let w = codes::width(code);
     let mut c = Counted {
         state: crate::mark::read(w, marks, m),
         rounds: before,
@@ -47,7 +47,7 @@ pub(crate) fn work_on(
     let at = GROUP * last;
     let end = crate::judge::RECORD * n;
     let d = rounds::last::absorb_last(w, c, &sheet[at..end]);
-    let e = rounds::squeeze::squeeze(w, d, rounds::codes::words(code), out);
+    let e = squeeze::squeeze(w, d, codes::words(code), out);
     e.rounds
 }
 

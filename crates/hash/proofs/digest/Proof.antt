@@ -13,10 +13,10 @@ use Rattle.definition.specs.Word.{bytesOfAll}
 use Rattle.definition.specs.Buffer.{overwrite}
 use Rattle.definition.specs.Luffa.{bytesAt}
 use Rattle.definition.specs.Refusal.{pick, firstOf, widthRefusal, outRefusal}
-use Rattle.definition.specs.Calls.{longRefusal, digestRefusals, digestOutcome}
+use Rattle.hash_definition.specs.Calls.{longRefusal, digestRefusals, digestOutcome}
 use Rattle.definition.proofs.Codes.{words-le}
-use Rattle.definition.proofs.Refusals.{refused, accepted}
-use Rattle.rounds.proofs.Digests.{squeezed-out}
+use Rattle.hash_definition.proofs.Refused.{refused, accepted}
+use Rattle.squeeze.proofs.Digests.{squeezed-out}
 use Rattle.hash.proofs.Output.{whole-message}
 use Rattle.hash.proofs.digest.Statement.{statement}
 use Rattle.hash.proofs.digest.Tie as tie

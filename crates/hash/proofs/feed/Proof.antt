@@ -9,12 +9,12 @@ use denote.Ref.{now}
 use borrow.Author.Needs.{needs}
 use borrow.Author.Tests.{lt-ltb, le-ltb, not-true, not-false}
 use lib.ListN.{length}
-use Rattle.definition.specs.declared.Kept.{Kept}
+use Rattle.hash_definition.specs.declared.Kept.{Kept}
 use Rattle.definition.specs.Refusal.{pick, firstOf}
-use Rattle.definition.specs.Record.{limit, wellFormed, encode, decode, fed}
-use Rattle.definition.specs.Calls.{recordRefusal, longRefusal, feedRefusals, feedOutcome}
-use Rattle.definition.proofs.Refusals.{refused, accepted}
-use Rattle.definition.proofs.Formed.{formed}
+use Rattle.hash_definition.specs.Record.{limit, wellFormed, encode, decode, fed}
+use Rattle.hash_definition.specs.Calls.{recordRefusal, longRefusal, feedRefusals, feedOutcome}
+use Rattle.hash_definition.proofs.Refused.{refused, accepted}
+use Rattle.hash_definition.proofs.Formed.{formed}
 use Rattle.hash.proofs.feed.Statement.{statement}
 use Rattle.hash.proofs.feed.Tie as tie
 

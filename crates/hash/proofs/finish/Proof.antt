@@ -6,11 +6,11 @@ use denote.Ref.{now}
 use borrow.Author.Needs.{needs}
 use borrow.Author.Tests.{not-true, not-false}
 use Rattle.definition.specs.Refusal.{pick, firstOf}
-use Rattle.definition.specs.Record.{wellFormed, decode}
-use Rattle.definition.specs.Calls.{recordRefusal, finishRefusals, finishOutcome}
-use Rattle.definition.proofs.Refusals.{refused}
-use Rattle.definition.proofs.Working.{held-finish}
-use Rattle.definition.proofs.Formed.{formed}
+use Rattle.hash_definition.specs.Record.{wellFormed, decode}
+use Rattle.hash_definition.specs.Calls.{recordRefusal, finishRefusals, finishOutcome}
+use Rattle.hash_definition.proofs.Refused.{refused}
+use Rattle.hash_definition.proofs.Working.{held-finish}
+use Rattle.hash_definition.proofs.Formed.{formed}
 use Rattle.hash.proofs.finish.Statement.{statement}
 use Rattle.hash.proofs.finish.Tie as tie
 

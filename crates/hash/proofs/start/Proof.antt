@@ -6,9 +6,9 @@ use Prim.Native.Nat.{ℕ}
 use borrow.Author.Needs.{needs}
 use borrow.Author.Tests.{eq-eqb, ne-eqb, not-true, not-false}
 use Rattle.definition.specs.Refusal.{pick, firstOf, widthRefusal}
-use Rattle.definition.specs.Record.{encode}
-use Rattle.definition.specs.Calls.{startRefusals, startOutcome}
-use Rattle.definition.proofs.Refusals.{refused, accepted}
+use Rattle.hash_definition.specs.Record.{encode}
+use Rattle.hash_definition.specs.Calls.{startRefusals, startOutcome}
+use Rattle.hash_definition.proofs.Refused.{refused, accepted}
 use Rattle.hash.proofs.start.Statement.{statement}
 use Rattle.hash.proofs.start.Tie as tie
 

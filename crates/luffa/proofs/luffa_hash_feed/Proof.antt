@@ -34,10 +34,10 @@ use denote.Triple.Clauses.{ensured, lasts}
 use denote.Triple.Table.{entered, cited}
 use denote.Triple.Walked.{says, Stays, gave-ref, stay-none-slice, walkOf, AllGo, goes-none-slice, goes-gave-ref, Walks, ends-at, walked, walk-meets}
 use denote.Exit.{yes}
-use Rattle.definition.specs.Lent.{lentFeedOutcome}
-use Rattle.definition.specs.declared.Kept.{Kept}
-use Rattle.definition.specs.declared.Lent.{Lent}
-use Rattle.definition.proofs.Kept as K
+use Rattle.hash_definition.specs.Lent.{lentFeedOutcome}
+use Rattle.hash_definition.specs.declared.Kept.{Kept}
+use Rattle.hash_definition.specs.declared.Lent.{Lent}
+use Rattle.hash_definition.proofs.Kept as K
 use Rattle.hash.proofs.lent.feed as lent
 use Rattle.hash.proofs.lent.feed.Symbol as lent-def
 use Rattle.hash.proofs.lent.feed.Symbol.{name as #lent}

@@ -32,10 +32,10 @@ use denote.Triple.Clauses.{ensured, lasts}
 use denote.Triple.Table.{entered, cited}
 use denote.Triple.Walked.{says, Stays, gave-ref, stay-none, walkOf, AllGo, goes-none, goes-gave-ref, Walks, ends-at, walked, walk-meets}
 use denote.Exit.{yes}
-use Rattle.definition.specs.Lent.{lentStartOutcome}
-use Rattle.definition.specs.declared.Kept.{Kept}
-use Rattle.definition.specs.declared.Lent.{Lent}
-use Rattle.definition.proofs.Kept as K
+use Rattle.hash_definition.specs.Lent.{lentStartOutcome}
+use Rattle.hash_definition.specs.declared.Kept.{Kept}
+use Rattle.hash_definition.specs.declared.Lent.{Lent}
+use Rattle.hash_definition.proofs.Kept as K
 use Rattle.hash.proofs.lent.start as lent
 use Rattle.hash.proofs.lent.start.Symbol as lent-def
 use Rattle.hash.proofs.lent.start.Symbol.{name as #lent}

@@ -7,13 +7,13 @@ use denote.Ref.{now}
 use borrow.Author.Needs.{needs}
 use lib.ListN.{length}
 use Rattle.definition.specs.Refusal.{pick, firstOf}
-use Rattle.definition.specs.Sheet.{q}
-use Rattle.definition.specs.SheetCalls.{refusedWith}
-use Rattle.definition.specs.Run.{World, Call, call, claimOf, outOf, placeOf, countOf, refusalsOf}
-use Rattle.definition.specs.Run.Call.{Append}
-use Rattle.rounds.proofs.Total.{write-at, length-writeAt}
-use Rattle.definition.proofs.Saves.{recordOf, marksOf, Valid, valid}
-use Rattle.definition.proofs.Answers.{refused-first, stale-first}
+use Rattle.sheet_definition.specs.Sheet.{q}
+use Rattle.sheet_definition.specs.SheetCalls.{refusedWith}
+use Rattle.sheet_definition.specs.Run.{World, Call, call, claimOf, outOf, placeOf, countOf, refusalsOf}
+use Rattle.sheet_definition.specs.Run.Call.{Append}
+use Rattle.bytes.proofs.Total.{write-at, length-writeAt}
+use Rattle.sheet_definition.proofs.Saves.{recordOf, marksOf, Valid, valid}
+use Rattle.sheet_definition.proofs.Answers.{refused-first, stale-first}
 use Rattle.sheet.specs.declared.onward.Checked.{Checked}
 use Rattle.sheet.proofs.Answered.{few, put-together}
 use Rattle.sheet.proofs.append.Statement.{statement}

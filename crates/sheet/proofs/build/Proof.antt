@@ -10,12 +10,12 @@ use lib.ListN.{length}
 use Rattle.definition.specs.declared.State.{State}
 use Rattle.definition.specs.State.{five}
 use Rattle.definition.specs.Buffer.{overwrite}
-use Rattle.definition.specs.Record.{wordsOfAll}
+use Rattle.definition.specs.Block.{wordsOfAll}
 use Rattle.definition.specs.Refusal.{firstOf}
-use Rattle.definition.specs.Sheet.{q, buildRefusals}
-use Rattle.definition.specs.Marks.{markOf}
-use Rattle.definition.proofs.Writes.{overwrite-front}
-use Rattle.definition.proofs.Outcomes.{Fits, fits}
+use Rattle.sheet_definition.specs.Sheet.{q, buildRefusals}
+use Rattle.sheet_definition.specs.Marks.{markOf}
+use Rattle.sheet_definition.proofs.Writes.{overwrite-front}
+use Rattle.sheet_definition.proofs.Outcomes.{Fits, fits}
 use Rattle.sheet.proofs.Answered.{build-refused, build-together}
 use Rattle.sheet.proofs.build.Statement.{statement}
 use Rattle.sheet.proofs.build.Tie as tie

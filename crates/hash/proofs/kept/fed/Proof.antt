@@ -10,7 +10,7 @@ use lib.ListN.{length, take, drop, length-drop}
 use lib.Seq.{length-take-le}
 use Rattle.definition.specs.Padding.{rest}
 use Rattle.definition.proofs.Chain.{counted-state}
-use Rattle.rounds.proofs.Parts.{part-rest}
+use Rattle.bytes.proofs.Parts.{part-rest}
 use Rattle.hash.proofs.Pieces.{stays, completes}
 use Rattle.hash.proofs.kept.fed.Statement.{statement}
 use Rattle.hash.proofs.kept.fed.Tie as tie

@@ -1,6 +1,6 @@
 -- `hash::kept::started` meets its contract: the starting state, and nothing fed.
 -- Assumes nothing.
-use Rattle.definition.specs.Record.{started as startedOf}
+use Rattle.hash_definition.specs.Record.{started as startedOf}
 use Rattle.hash.proofs.kept.started.Statement.{statement}
 use Rattle.hash.proofs.kept.started.Tie as tie
 

@@ -5,7 +5,8 @@ use borrow.Author.Needs.{needs}
 use borrow.Author.Tests.{not-true, not-false}
 use Rattle.definition.specs.Start.{blockCount}
 use Rattle.definition.specs.State.{five}
-use Rattle.definition.specs.Record.{allZero, wordsOfAll}
+use Rattle.definition.specs.Block.{wordsOfAll}
+use Rattle.hash_definition.specs.Record.{allZero}
 use Rattle.hash.proofs.Tests.{zero-append, zero-nil}
 use Rattle.hash.proofs.kept.unused_zero.Statement.{statement}
 use Rattle.hash.proofs.kept.unused_zero.Tie as tie

@@ -4,7 +4,7 @@ use mathlib.Core.Path.{sym, _∙_}
 use Prim.Native.Nat.{_%_}
 use borrow.Author.Needs.{needs}
 use borrow.Author.Tests.{not-true, not-false}
-use Rattle.definition.specs.Record.{pendingCount, wellKept}
+use Rattle.hash_definition.specs.Record.{pendingCount, wellKept}
 use Rattle.hash.proofs.Tests.{part-of}
 use Rattle.hash.proofs.kept.well_kept.Statement.{statement}
 use Rattle.hash.proofs.kept.well_kept.Tie as tie

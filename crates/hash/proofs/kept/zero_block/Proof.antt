@@ -3,7 +3,7 @@
 use mathlib.Core.Path.{sym}
 use borrow.Author.Tests.{eq-eqb, ne-eqb}
 use Rattle.definition.specs.Block.{wordsOf}
-use Rattle.definition.specs.Record.{allZero}
+use Rattle.hash_definition.specs.Record.{allZero}
 use Rattle.hash.proofs.Tests.{and-true}
 use Rattle.hash.proofs.kept.zero_block.Statement.{statement}
 use Rattle.hash.proofs.kept.zero_block.Tie as tie

@@ -7,13 +7,13 @@ use native.Mathlib.Omega.{arith}
 use denote.Ref.{now}
 use borrow.Author.Tests.{lt-ltb, le-ltb, not-true, not-false}
 use lib.ListN.{length}
-use Rattle.definition.specs.declared.Kept.{Kept}
+use Rattle.hash_definition.specs.declared.Kept.{Kept}
 use Rattle.definition.specs.Refusal.{pick, firstOf}
-use Rattle.definition.specs.Record.{limit, wellKept}
-use Rattle.definition.specs.Calls.{longRefusal}
-use Rattle.definition.specs.Lent.{keptRefusal, lentFeedRefusals, lentFeedOutcome}
-use Rattle.definition.proofs.Feeding.{well-kept}
-use Rattle.definition.proofs.Working.{lent-refused, lent-accepted}
+use Rattle.hash_definition.specs.Record.{limit, wellKept}
+use Rattle.hash_definition.specs.Calls.{longRefusal}
+use Rattle.hash_definition.specs.Lent.{keptRefusal, lentFeedRefusals, lentFeedOutcome}
+use Rattle.hash_definition.proofs.Feeding.{well-kept}
+use Rattle.hash_definition.proofs.Working.{lent-refused, lent-accepted}
 use Rattle.hash.proofs.lent.fed_answer.Statement.{statement}
 use Rattle.hash.proofs.lent.fed_answer.Tie as tie
 

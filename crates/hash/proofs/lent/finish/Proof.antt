@@ -39,11 +39,11 @@ use denote.Triple.Clauses.{ensured, lasts}
 use denote.Triple.Table.{entered, cited}
 use denote.Triple.Walked.{says, Stays, stay-none-ref, gave-slice, walkOf, AllGo, goes-none-ref, goes-gave-slice, Walks, ends-at, walked, walk-meets}
 use denote.Exit.{yes}
-use Rattle.definition.specs.Calls.{Outcome}
-use Rattle.definition.specs.Lent.{lentFinishOutcome}
-use Rattle.definition.specs.declared.Kept.{Kept}
-use Rattle.definition.proofs.Kept as K
-use Rattle.definition.proofs.Kept.Laws as K′
+use Rattle.hash_definition.specs.Calls.{Outcome}
+use Rattle.hash_definition.specs.Lent.{lentFinishOutcome}
+use Rattle.hash_definition.specs.declared.Kept.{Kept}
+use Rattle.hash_definition.proofs.Kept as K
+use Rattle.hash_definition.proofs.Kept.Laws as K′
 use Rattle.hash.proofs.Memory.{kept-pending}
 use Rattle.hash.proofs.lent.finished_answer as answer
 use Rattle.hash.proofs.lent.finished_answer.Symbol as answer-def

@@ -15,11 +15,11 @@ use Rattle.definition.specs.Word.{bytesOfAll}
 use Rattle.definition.specs.Buffer.{overwrite}
 use Rattle.definition.specs.Luffa.{bytesAt}
 use Rattle.definition.specs.Refusal.{pick, firstOf, outRefusal}
-use Rattle.definition.specs.Record.{wellKept, pendingCount, pendingBytes, finished}
-use Rattle.definition.specs.Lent.{keptRefusal, lentFinishRefusals, lentFinishOutcome}
+use Rattle.hash_definition.specs.Record.{wellKept, pendingCount, pendingBytes, finished}
+use Rattle.hash_definition.specs.Lent.{keptRefusal, lentFinishRefusals, lentFinishOutcome}
 use Rattle.definition.proofs.Codes.{words-le}
-use Rattle.definition.proofs.Refusals.{refused, accepted}
-use Rattle.rounds.proofs.Digests.{squeezed-out}
+use Rattle.hash_definition.proofs.Refused.{refused, accepted}
+use Rattle.squeeze.proofs.Digests.{squeezed-out}
 use Rattle.hash.proofs.lent.finished_answer.Statement.{statement}
 use Rattle.hash.proofs.lent.finished_answer.Tie as tie
 

@@ -39,13 +39,13 @@ use denote.Triple.Clauses.{ensured, lasts}
 use denote.Triple.Table.{entered, cited}
 use denote.Triple.Walked.{says, Stays, stay-ref, stay-none, walkOf, AllGo, goes-none, goes-ref, Walks, ends-at, walked, walk-meets}
 use denote.Exit.{yes}
-use Rattle.definition.specs.Lent.{lentStartOutcome}
-use Rattle.definition.specs.declared.Kept.{Kept}
-use Rattle.definition.specs.declared.Lent.{Lent}
-use Rattle.definition.proofs.Kept as K
-use Rattle.definition.proofs.Kept.Laws as K′
-use Rattle.definition.proofs.Lent as L
-use Rattle.definition.proofs.Lent.Laws as L′
+use Rattle.hash_definition.specs.Lent.{lentStartOutcome}
+use Rattle.hash_definition.specs.declared.Kept.{Kept}
+use Rattle.hash_definition.specs.declared.Lent.{Lent}
+use Rattle.hash_definition.proofs.Kept as K
+use Rattle.hash_definition.proofs.Kept.Laws as K′
+use Rattle.hash_definition.proofs.Lent as L
+use Rattle.hash_definition.proofs.Lent.Laws as L′
 use Rattle.hash.proofs.lent.started_answer as answer
 use Rattle.hash.proofs.lent.started_answer.Symbol as answer-def
 use Rattle.hash.proofs.lent.started_answer.Symbol.{name as #answer}

@@ -2,10 +2,10 @@
 -- Assumes nothing.
 use mathlib.Core.Path.{sym, ap, _∙_}
 use borrow.Author.Tests.{not-true, not-false}
-use Rattle.definition.specs.declared.Kept.{Kept}
+use Rattle.hash_definition.specs.declared.Kept.{Kept}
 use Rattle.definition.specs.Refusal.{pick, firstOf, widthRefusal}
-use Rattle.definition.specs.Lent.{lentStartRefusals, lentStartOutcome}
-use Rattle.definition.proofs.Working.{lent-refused, lent-accepted}
+use Rattle.hash_definition.specs.Lent.{lentStartRefusals, lentStartOutcome}
+use Rattle.hash_definition.proofs.Working.{lent-refused, lent-accepted}
 use Rattle.hash.proofs.lent.started_answer.Statement.{statement}
 use Rattle.hash.proofs.lent.started_answer.Tie as tie
 

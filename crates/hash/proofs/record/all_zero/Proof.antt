@@ -11,7 +11,7 @@ use borrow.Author.Tests.{eq-eqb, ne-eqb}
 use lib.Dec.{eqb}
 use lib.ListN.{length, getD, drop, drop-of-length-le}
 use lib.Seq.{drop-cons}
-use Rattle.definition.specs.Record.{allZero}
+use Rattle.hash_definition.specs.Record.{allZero}
 use Rattle.hash.proofs.record.all_zero.Statement.{statement}
 use Rattle.hash.proofs.record.all_zero.Tie as tie
 

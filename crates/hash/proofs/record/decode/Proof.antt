@@ -1,6 +1,6 @@
 -- `hash::record::decode` meets its contract: its parts, put together.
 -- Assumes nothing.
-use Rattle.definition.specs.Record.{decode}
+use Rattle.hash_definition.specs.Record.{decode}
 use borrow.Author.Needs.{needs}
 use Rattle.hash.proofs.record.decode.Statement.{statement}
 use Rattle.hash.proofs.record.decode.Tie as tie

@@ -2,9 +2,9 @@
 -- Assumes nothing.
 use mathlib.Core.Path.{sym, _∙_}
 use denote.Ref.{now}
-use Rattle.definition.specs.Block.{wordsOf}
+use Rattle.definition.specs.Block.{wordsOf, wordsOfAll}
 use Rattle.definition.specs.State.{five}
-use Rattle.definition.specs.Record.{wordsOfAll, countWords}
+use Rattle.hash_definition.specs.Record.{countWords}
 use Rattle.hash.proofs.Places.{frontWords, written}
 use borrow.Author.Needs.{needs}
 use Rattle.hash.proofs.record.encode.Statement.{statement}

@@ -3,7 +3,7 @@
 use mathlib.Core.Path.{_∙_}
 use native.Mathlib.Omega.{arith}
 use borrow.Author.Needs.{needs}
-use Rattle.rounds.proofs.Total.{write-at}
+use Rattle.bytes.proofs.Total.{write-at}
 use Rattle.hash.proofs.record.pasted.Statement.{statement}
 use Rattle.hash.proofs.record.pasted.Tie as tie
 

@@ -6,7 +6,7 @@ use native.Mathlib.Omega.{arith}
 use denote.Ref.{now}
 use lib.ListN.{length, take, drop, replicate, length-drop}
 use lib.Seq.{length-take-le}
-use Rattle.definition.specs.Record.{decode}
+use Rattle.hash_definition.specs.Record.{decode}
 use Rattle.hash.proofs.Places.{all-written}
 use borrow.Author.Needs.{needs}
 use Rattle.hash.proofs.record.pending_in.Statement.{statement}

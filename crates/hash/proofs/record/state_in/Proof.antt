@@ -4,7 +4,7 @@ use mathlib.Core.Path.{_≡_, _∙_}
 use native.Mathlib.Omega.{arith}
 use denote.Ref.{now}
 use lib.ListN.{length}
-use Rattle.definition.specs.Record.{blockIn, decode}
+use Rattle.hash_definition.specs.Record.{blockIn, decode}
 use Rattle.hash.proofs.Places.{part-block}
 use borrow.Author.Needs.{needs}
 use Rattle.hash.proofs.record.state_in.Statement.{statement}

@@ -3,7 +3,7 @@
 use mathlib.Core.Path.{sym, _∙_}
 use borrow.Author.Needs.{needs}
 use borrow.Author.Tests.{eq-eqb, ne-eqb, not-true, not-false}
-use Rattle.definition.specs.Record.{wellFormed}
+use Rattle.hash_definition.specs.Record.{wellFormed}
 use Rattle.hash.proofs.record.well_formed.Statement.{statement}
 use Rattle.hash.proofs.record.well_formed.Tie as tie
 

@@ -11,7 +11,7 @@ use Rattle.definition.specs.Block.{blockOf}
 use Rattle.definition.specs.Padding.{closing, padding, blocks, rest, lastBlock}
 use Rattle.definition.proofs.Padding.{blocks-padded}
 use Rattle.definition.proofs.Chain.{counted-append}
-use Rattle.rounds.proofs.Parts.{part-rest}
+use Rattle.bytes.proofs.Parts.{part-rest}
 use Rattle.rounds.proofs.last.absorb_last.Statement.{statement}
 use Rattle.rounds.proofs.last.absorb_last.Tie as tie
 

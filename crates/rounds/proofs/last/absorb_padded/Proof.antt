@@ -11,7 +11,7 @@ use lib.ListN.{length, set, length-set, length-append}
 use lib.Seq.{take-length}
 use Rattle.definition.specs.Padding.{closing, padding}
 use Rattle.definition.proofs.Padding.{blocks-one, length-padding}
-use Rattle.rounds.proofs.Parts.{filled, filled-none, filled-set, filled-more, length-filled}
+use Rattle.bytes.proofs.Parts.{filled, filled-none, filled-set, filled-more, length-filled}
 use Rattle.rounds.proofs.last.absorb_padded.Statement.{statement}
 use Rattle.rounds.proofs.last.absorb_padded.Tie as tie
 

@@ -5,8 +5,8 @@ use native.Mathlib.Omega.{arith}
 use borrow.Author.Needs.{needs}
 use borrow.Author.Tests.{eq-eqb, ne-eqb, lt-ltb, le-ltb}
 use Rattle.definition.specs.Refusal.{pick, firstOf}
-use Rattle.definition.specs.Sheet.{q, buildRefusals, appendRefusals}
-use Rattle.definition.proofs.Outcomes.{Fits, fits}
+use Rattle.sheet_definition.specs.Sheet.{q, buildRefusals, appendRefusals}
+use Rattle.sheet_definition.proofs.Outcomes.{Fits, fits}
 use Rattle.sheet.proofs.Judged.{of-the-four, after-the-four}
 use Rattle.sheet.proofs.judge.append.Statement.{statement}
 use Rattle.sheet.proofs.judge.append.Tie as tie

@@ -8,7 +8,7 @@ use borrow.Author.Needs.{needs}
 use borrow.Author.Tests.{lt-ltb, le-ltb, not-true, not-false}
 use Rattle.definition.specs.Luffa.{bytesAt}
 use Rattle.definition.specs.Refusal.{known, pick, firstOf, widthRefusal, outRefusal}
-use Rattle.definition.specs.Sheet.{q, sheetRefusal, marksRefusal, buildRefusals}
+use Rattle.sheet_definition.specs.Sheet.{q, sheetRefusal, marksRefusal, buildRefusals}
 use Rattle.definition.proofs.Codes.{words-le}
 use Rattle.sheet.proofs.judge.build.Statement.{statement}
 use Rattle.sheet.proofs.judge.build.Tie as tie

@@ -2,7 +2,7 @@
 -- Assumes nothing.
 use borrow.Author.Tests.{le-leb, lt-leb}
 use Rattle.definition.specs.Refusal.{pick, firstOf}
-use Rattle.definition.specs.Sheet.{buildRefusals, changeRefusals}
+use Rattle.sheet_definition.specs.Sheet.{buildRefusals, changeRefusals}
 use Rattle.sheet.proofs.Judged.{of-the-four, after-the-four}
 use Rattle.sheet.proofs.judge.change.Statement.{statement}
 use Rattle.sheet.proofs.judge.change.Tie as tie

@@ -4,7 +4,7 @@ use native.Mathlib.Omega.{arith}
 use borrow.Author.Tests.{eq-eqb, ne-eqb}
 use Rattle.definition.specs.Luffa.{bytesAt}
 use Rattle.definition.specs.Refusal.{pick, firstOf}
-use Rattle.definition.specs.Sheet.{claimRefusal}
+use Rattle.sheet_definition.specs.Sheet.{claimRefusal}
 use Rattle.definition.proofs.Codes.{words-le}
 use Rattle.sheet.proofs.judge.claimed.Statement.{statement}
 use Rattle.sheet.proofs.judge.claimed.Tie as tie

@@ -2,7 +2,7 @@
 -- Assumes nothing.
 use borrow.Author.Tests.{eq-eqb, ne-eqb}
 use Rattle.definition.specs.Refusal.{pick, firstOf}
-use Rattle.definition.specs.Sheet.{buildRefusals, dropRefusals}
+use Rattle.sheet_definition.specs.Sheet.{buildRefusals, dropRefusals}
 use Rattle.sheet.proofs.Judged.{of-the-four, after-the-four}
 use Rattle.sheet.proofs.judge.drop.Statement.{statement}
 use Rattle.sheet.proofs.judge.drop.Tie as tie

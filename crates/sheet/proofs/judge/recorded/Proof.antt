@@ -2,7 +2,7 @@
 -- Assumes nothing.
 use borrow.Author.Tests.{eq-eqb, ne-eqb}
 use Rattle.definition.specs.Refusal.{pick, firstOf}
-use Rattle.definition.specs.Sheet.{sizeRefusal}
+use Rattle.sheet_definition.specs.Sheet.{sizeRefusal}
 use Rattle.sheet.proofs.judge.recorded.Statement.{statement}
 use Rattle.sheet.proofs.judge.recorded.Tie as tie
 

@@ -1,9 +1,9 @@
 -- `sheet::mark::clear` meets its contract: mark q is zeroed when r = 0, else nothing.
 -- Assumes nothing.
 use borrow.Author.Needs.{needs}
-use Rattle.definition.specs.Sheet.{q, r}
-use Rattle.definition.specs.SheetCalls.{zeroMarks}
-use Rattle.definition.proofs.Saves.{zero-one, zero-none}
+use Rattle.sheet_definition.specs.Sheet.{q, r}
+use Rattle.sheet_definition.specs.SheetCalls.{zeroMarks}
+use Rattle.sheet_definition.proofs.Saves.{zero-one, zero-none}
 use Rattle.sheet.proofs.mark.clear.Statement.{statement}
 use Rattle.sheet.proofs.mark.clear.Tie as tie
 

@@ -8,7 +8,7 @@ use denote.Ref.{now}
 use lib.ListN.{length}
 use lib.Seq.{paste, paste-zero, paste-suc, take-length}
 use Rattle.definition.specs.Buffer.{overwriteAt}
-use Rattle.rounds.proofs.Parts.{pasted-length}
+use Rattle.bytes.proofs.Parts.{pasted-length}
 use Rattle.sheet.proofs.mark.put.Statement.{statement}
 use Rattle.sheet.proofs.mark.put.Tie as tie
 

@@ -1,9 +1,8 @@
 -- `sheet::mark::write` meets its contract: the words of the five blocks in order.
 -- Assumes nothing.
 use borrow.Author.Needs.{needs}
-use Rattle.definition.specs.Block.{wordsOf}
+use Rattle.definition.specs.Block.{wordsOf, wordsOfAll}
 use Rattle.definition.specs.State.{five}
-use Rattle.definition.specs.Record.{wordsOfAll}
 use Rattle.sheet.proofs.mark.write.Statement.{statement}
 use Rattle.sheet.proofs.mark.write.Tie as tie
 

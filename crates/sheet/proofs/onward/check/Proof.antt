@@ -10,8 +10,8 @@ use denote.Ref.{now}
 use borrow.Author.Needs.{needs}
 use Rattle.definition.specs.Luffa.{bytesAt}
 use Rattle.definition.specs.Buffer.{same}
-use Rattle.definition.specs.Sheet.{q}
-use Rattle.definition.specs.SheetCalls.{checked, stale}
+use Rattle.sheet_definition.specs.Sheet.{q}
+use Rattle.sheet_definition.specs.SheetCalls.{checked, stale}
 use Rattle.definition.proofs.Codes.{words-le}
 use Rattle.sheet.proofs.Claims.{in-front, compared}
 use Rattle.sheet.proofs.Groups.{check-leaves}

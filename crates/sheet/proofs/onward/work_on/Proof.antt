@@ -9,7 +9,7 @@ use borrow.Author.Needs.{needs}
 use lib.ListN.{length}
 use Rattle.definition.specs.declared.Counted.{Counted}
 use Rattle.definition.specs.Buffer.{overwrite}
-use Rattle.definition.specs.Sheet.{q}
+use Rattle.sheet_definition.specs.Sheet.{q}
 use Rattle.sheet.proofs.Groups.{ahead, group-on, length-written, absorbed-is, marks-worked, digest-worked, rounds-worked}
 use Rattle.sheet.proofs.onward.work_on.Statement.{statement}
 use Rattle.sheet.proofs.onward.work_on.Tie as tie

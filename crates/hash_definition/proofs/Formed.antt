@@ -1,0 +1,40 @@
+-- What a well-formed record has: its length, and what it holds is well kept.
+-- Assumes nothing.
+use mathlib.Core.Path.{_≡_}
+use mathlib.Core.Bool.{true, _&&_}
+use mathlib.Core.List.{List}
+use Prim.Native.Nat.{ℕ, _-_, _≤_}
+use native.Mathlib.Omega.{arith}
+use borrow.Author.Tests.{eqb-true}
+use lib.Dec.{eqb}
+use lib.ListN.{length, take, drop, length-drop}
+use lib.Seq.{length-take-le}
+use Rattle.hash_definition.specs.Record.{recordLength, limit, allZero, wellKept, decode, wellFormed}
+use Rattle.hash_definition.proofs.Feeding.{both-true, well-kept}
+
+pub record Formed (b : List ℕ) : Type 0 where
+  pub size : length b ≡ recordLength
+  pub reserved : allZero (take 7 (drop 1 b)) ≡ true
+  pub holds : wellKept (decode b) ≡ true
+  pub within : decode b .count ≤ limit
+  pub buffer : length (decode b .pending) ≡ 32
+
+pending-length : (b : List ℕ) → length b ≡ recordLength → length (decode b .pending) ≡ 32
+unfolding decode
+pending-length b e = length-take-le 32 (drop 168 b) (omega (arith, length-drop 168 b))
+
+pub formed : (b : List ℕ) → wellFormed b ≡ true → Formed b
+unfolding wellFormed
+formed b e =
+    let s : (eqb (length b) recordLength && allZero (take 7 (drop 1 b)) ≡ true) × (wellKept (decode b) ≡ true) =
+    both-true (eqb (length b) recordLength && allZero (take 7 (drop 1 b))) (wellKept (decode b)) e in
+    let t : (eqb (length b) recordLength ≡ true) × (allZero (take 7 (drop 1 b)) ≡ true) =
+    both-true (eqb (length b) recordLength) (allZero (take 7 (drop 1 b))) (s .0) in
+    let n : length b ≡ recordLength = eqb-true (length b) recordLength (t .0) in
+    record {
+      size = n;
+      reserved = t .1;
+      holds = s .1;
+      within = well-kept (decode b) (s .1) .count-le;
+      buffer = pending-length b n;
+    }

@@ -1,0 +1,10 @@
+-- Laws of the hash record and of its calls: demand 2, over bytes and over a lent working state.
+pub mod Refused
+pub mod Feeding
+pub mod Formed
+pub mod Records
+pub mod Demand2
+pub mod AnyRecord
+pub mod Working
+pub mod WorkingDemand2
+pub mod Determined

@@ -1,0 +1,117 @@
+-- The calls over a lent working state are those of the byte form, read through `encode`: the same answer, and the working state at the end is
+-- what the record's bytes then hold. A code that is no byte has no record, and is refused.
+-- Assumes nothing.
+use mathlib.Core.Path.{_≡_, refl, sym, ap, _∙_}
+use mathlib.Core.Bool.{true, false}
+use mathlib.Core.List.{List}
+use Prim.Native.Nat.{ℕ, zero, suc, _^_, _<_, _≤_}
+use native.Mathlib.Omega.{arith}
+use lib.ListN.{length, getD}
+use borrow.Author.Tests.{eq-eqb, le-leb, lt-leb}
+use Rattle.hash_definition.specs.declared.Kept.{Kept}
+use Rattle.hash_definition.specs.declared.Lent.{Lent}
+use Rattle.definition.specs.State.{five}
+use Rattle.definition.specs.Refusal.{Refusal, RECORD, pick, firstOf, known, whenDone}
+use Rattle.definition.specs.Block.{wordsOfAll}
+use Rattle.hash_definition.specs.Record.{recordLength, encode, decode, wellKept, wellFormed, fed, finished}
+use Rattle.hash_definition.specs.Calls.{Outcome, outcome, recordRefusal, startRefusals, feedRefusals, finishRefusals, startOutcome, feedOutcome, finishOutcome}
+use Rattle.hash_definition.specs.Lent.{lentOutcome, keptRefusal, lentStartRefusals, lentFeedRefusals, lentFinishRefusals, lentStartOutcome, lentFeedOutcome, lentFinishOutcome}
+use Rattle.definition.specs.Buffer.{overwrite}
+use Rattle.hash_definition.proofs.Refused.{refused}
+use Rattle.hash_definition.proofs.Formed.{formed}
+use Rattle.hash_definition.proofs.Records.{length-encode, decode-encode, encode-decode}
+use Rattle.hash_definition.proofs.Demand2.{seven-zeros}
+
+-- a refused call's working state is as at entry; an accepted call's is what the call makes of it
+pub lent-refused : (rs : List Refusal) (done before : Kept) (k : ℕ) → firstOf rs ≡ suc k
+    → record { number = suc k; kept = before } ≡ lentOutcome rs done before
+unfolding lentOutcome whenDone
+lent-refused rs done before k e = rw e
+
+pub lent-accepted : (rs : List Refusal) (done before : Kept) → firstOf rs ≡ 0 → record { number = 0; kept = done } ≡ lentOutcome rs done before
+unfolding lentOutcome whenDone
+lent-accepted rs done before e = rw e
+
+-- what the types of its fields say of a working state
+pub record Typed (k : Kept) : Type 0 where
+  pub words : (i : ℕ) → getD (wordsOfAll (five (k .state))) i 0 < 2 ^ 32
+  pub pending : length (k .pending) ≡ 32
+  pub count : k .count < 2 ^ 64
+
+-- the outcome of the byte form that answers an outcome over a working state
+abbrev pub inBytes : Lent → Outcome
+inBytes o = record { number = o .number; buffer = encode (o .kept) }
+
+-- a call that is refused alike and makes of the bytes what is made of the working state
+in-bytes : (rs : List Refusal) (done before : Kept) → outcome rs (encode done) (encode before) ≡ inBytes (lentOutcome rs done before)
+unfolding outcome lentOutcome
+in-bytes rs done before = ap (λ (b : List ℕ). record { number = firstOf rs; buffer = b }) (same (firstOf rs))
+  where
+    same : (n : ℕ) → whenDone n (encode done) (encode before) ≡ encode (whenDone n done before)
+    same zero = unfold whenDone in refl
+    same (suc n) = unfold whenDone in refl
+
+module _ (k : Kept) (t : Typed k) where
+  length-lent : length (encode k) ≡ recordLength
+  length-lent = length-encode k (t .pending)
+
+  module _ (byte : k .code < 256) where
+    lent-decoded : decode (encode k) ≡ k
+    lent-decoded = decode-encode k byte (t .words) (t .pending) (t .count)
+
+    -- a working state is well formed when its bytes are
+    pub lent-formed : wellFormed (encode k) ≡ wellKept k
+    unfolding wellFormed
+    lent-formed = rw (eq-eqb (length (encode k)) recordLength length-lent, seven-zeros k, lent-decoded)
+
+    -- feeding: the same number, and the bytes of the working state at the end
+    pub lent-feed : (piece : List ℕ) → feedOutcome (encode k) piece ≡ inBytes (lentFeedOutcome k piece)
+    unfolding feedOutcome feedRefusals recordRefusal lentFeedOutcome lentFeedRefusals keptRefusal
+    lent-feed piece = rw (lent-formed, lent-decoded) (in-bytes _ _ _)
+
+    -- finishing: the same number and the same buffer
+    pub lent-finish : (out : List ℕ) → finishOutcome (encode k) out ≡ lentFinishOutcome k out
+    unfolding finishOutcome finishRefusals recordRefusal lentFinishOutcome lentFinishRefusals keptRefusal
+    lent-finish out = rw (lent-formed, lent-decoded)
+
+  -- starting: the same number, and the bytes of the working state at the end
+  pub lent-start : (code : ℕ) → startOutcome code (encode k) ≡ inBytes (lentStartOutcome code k)
+  unfolding startOutcome startRefusals lentStartOutcome lentStartRefusals lentOutcome firstOf pick
+  lent-start code = rw (eq-eqb (length (encode k)) recordLength length-lent) (in-bytes _ _ _)
+
+-- a code that is not known: the working state is not well formed
+pub unknown-formed : (k : Kept) → known (k .code) ≡ false → wellKept k ≡ false
+unfolding wellKept
+unknown-formed k e = rw e
+
+-- so it is refused, and left as it is
+pub unknown-feed : (k : Kept) (piece : List ℕ) → known (k .code) ≡ false → lentFeedOutcome k piece ≡ record { number = RECORD; kept = k }
+unfolding lentFeedOutcome
+unknown-feed k piece e = sym (lent-refused (lentFeedRefusals k (length piece)) (fed k piece) k 2 first)
+  where
+    first : firstOf (lentFeedRefusals k (length piece)) ≡ RECORD
+    first = unfold lentFeedRefusals keptRefusal firstOf pick in rw (unknown-formed k e)
+
+pub unknown-finish : (k : Kept) (out : List ℕ) → known (k .code) ≡ false → lentFinishOutcome k out ≡ record { number = RECORD; buffer = out }
+unfolding lentFinishOutcome
+unknown-finish k out e = sym (refused (lentFinishRefusals k (length out)) (overwrite (finished k) out) out 2 first)
+  where
+    first : firstOf (lentFinishRefusals k (length out)) ≡ RECORD
+    first = unfold lentFinishRefusals keptRefusal firstOf pick in rw (unknown-formed k e)
+
+-- a code that is no byte is not known
+pub no-byte : (code : ℕ) → 256 ≤ code → known code ≡ false
+unfolding known
+no-byte code h = rw (le-leb 1 code (omega arith), lt-leb code 4 (omega arith))
+
+-- a well formed record and the working state that it holds: the same answer, and the working state at the end has the record's bytes
+pub held-feed : (r piece : List ℕ) → ((i : ℕ) → getD r i 0 < 256) → wellFormed r ≡ true
+    → feedOutcome r piece ≡ inBytes (lentFeedOutcome (decode r) piece)
+unfolding feedOutcome feedRefusals recordRefusal lentFeedOutcome lentFeedRefusals keptRefusal
+held-feed r piece h w =
+    let e : encode (decode r) ≡ r = encode-decode r h w in
+    rw (w, formed r w .holds) (ap (outcome _ _) (sym e) ∙ in-bytes _ _ _)
+
+pub held-finish : (r out : List ℕ) → wellFormed r ≡ true → finishOutcome r out ≡ lentFinishOutcome (decode r) out
+unfolding finishOutcome finishRefusals recordRefusal lentFinishOutcome lentFinishRefusals keptRefusal
+held-finish r out w = rw (w, formed r w .holds)

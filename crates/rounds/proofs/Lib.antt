@@ -1,5 +1,0 @@
--- Laws that the proofs share.
-pub mod Parts
-pub mod Total
-pub mod Words
-pub mod Digests

@@ -1,2 +1,0 @@
-pub mod Total
-pub mod Squeeze

@@ -1,0 +1,106 @@
+-- Records of 40 bytes one after the other: a record replaced, added or removed, and the bytes.
+-- Assumes nothing.
+use mathlib.Core.Path.{_≡_, refl, sym, ap, _∙_}
+use mathlib.Core.List.{List, [], _∷_, _++_, append-assoc}
+use Prim.Native.Nat.{ℕ, zero, suc, _+_, _*_, _<_, _≤_}
+use native.Mathlib.Nat.{add-assoc}
+use native.Mathlib.Omega.{arith}
+use lib.ListN.{length, take, drop, set, length-append, length-drop, take-append-drop}
+use lib.Seq.{length-take-le, take-nil, take-at, drop-at, take-append-le, drop-append-le, take-append-add, drop-append-add, take-add}
+use Rattle.definition.specs.Buffer.{overwriteAt}
+use Rattle.sheet_definition.specs.Run.{cut}
+use Rattle.definition.proofs.Buffer.{length-overwriteAt}
+use Rattle.definition.specs.Buffer.{joined}
+
+-- each is of 40 bytes
+abbrev pub Forty : List (List ℕ) → Type 0
+Forty [] = Unit
+Forty (x ∷ rs) = (length x ≡ 40) × Forty rs
+
+pub forty-set : (rs : List (List ℕ)) (p : ℕ) (x : List ℕ) → length x ≡ 40 → Forty rs → Forty (set rs p x)
+forty-set [] p x e f = tt
+forty-set (y ∷ rs) zero x e f = (e, f .1)
+forty-set (y ∷ rs) (suc p) x e f = (f .0, forty-set rs p x e (f .1))
+
+pub forty-append : (rs : List (List ℕ)) (x : List ℕ) → length x ≡ 40 → Forty rs → Forty (rs ++ x ∷ [])
+forty-append [] x e f = (e, tt)
+forty-append (y ∷ rs) x e f = (f .0, forty-append rs x e (f .1))
+
+pub forty-take : (rs : List (List ℕ)) (k : ℕ) → Forty rs → Forty (take k rs)
+forty-take rs zero f = tt
+forty-take [] (suc k) f = tt
+forty-take (y ∷ rs) (suc k) f = (f .0, forty-take rs k (f .1))
+
+pub length-joined : (rs : List (List ℕ)) → Forty rs → length (joined rs) ≡ 40 * length rs
+unfolding joined
+length-joined [] f = refl
+length-joined (x ∷ rs) f = omega (arith, length-append x (joined rs), length-joined rs (f .1))
+
+pub joined-append : (rs ts : List (List ℕ)) → joined (rs ++ ts) ≡ joined rs ++ joined ts
+unfolding joined
+joined-append [] ts = refl
+joined-append (x ∷ rs) ts = rw (joined-append rs ts, append-assoc x (joined rs) (joined ts))
+
+pub joined-take : (rs : List (List ℕ)) (k : ℕ) → Forty rs → joined (take k rs) ≡ take (40 * k) (joined rs)
+unfolding joined
+joined-take rs zero f = refl
+joined-take [] (suc k) f = sym (take-nil (40 * suc k))
+joined-take (x ∷ rs) (suc k) f =
+    let e : length x + 40 * k ≡ 40 * suc k = omega arith in
+    ap (λ (l : List ℕ). x ++ l) (joined-take rs k (f .1)) ∙ sym (take-append-add x (joined rs) (40 * k))
+    ∙ ap (λ (i : ℕ). take i (x ++ joined rs)) e
+
+-- a piece written behind the front of a list
+overwrite-behind : (y : List ℕ) (i : ℕ) (p l : List ℕ) → overwriteAt (length y + i) p (y ++ l) ≡ y ++ overwriteAt i p l
+unfolding overwriteAt
+overwrite-behind y i p l =
+    rw (take-append-add y l i, add-assoc (length y) i (length p), drop-append-add y l (i + length p))
+    (ap (λ (z : List ℕ). z ++ drop (i + length p) l) (append-assoc y (take i l) p) ∙ append-assoc y (take i l ++ p) (drop (i + length p) l))
+
+pub joined-set : (rs : List (List ℕ)) (p : ℕ) (x : List ℕ) → length x ≡ 40 → Forty rs → p < length rs
+    → joined (set rs p x) ≡ overwriteAt (40 * p) x (joined rs)
+unfolding joined overwriteAt
+joined-set [] p x e f h = absurd (omega arith)
+joined-set (y ∷ rs) zero x e f h = ap (λ (l : List ℕ). x ++ l) (sym (drop-at y (joined rs) (0 + length x) (omega arith)))
+joined-set (y ∷ rs) (suc p) x e f h =
+    let j : length y + 40 * p ≡ 40 * suc p = omega arith in
+    ap (λ (l : List ℕ). y ++ l) (joined-set rs p x e (f .1) (omega arith)) ∙ sym (overwrite-behind y (40 * p) x (joined rs))
+    ∙ ap (λ (i : ℕ). overwriteAt i x (y ++ joined rs)) j
+
+-- a piece written into the front of a list
+overwrite-append : (i : ℕ) (p l r : List ℕ) → i + length p ≤ length l → overwriteAt i p (l ++ r) ≡ overwriteAt i p l ++ r
+unfolding overwriteAt
+overwrite-append i p l r h =
+    let j : i ≤ length l = omega arith in
+    rw (take-append-le i l r, drop-append-le (i + length p) l r) (sym (append-assoc (take i l ++ p) (drop (i + length p) l) r))
+
+pub take-overwritten : (i j : ℕ) (p l : List ℕ) → i + length p ≤ j → j ≤ length l → take j (overwriteAt i p l) ≡ overwriteAt i p (take j l)
+take-overwritten i j p l h n =
+    let k : length (take j l) ≡ j = length-take-le j l n in
+    ap (λ (z : List ℕ). take j (overwriteAt i p z)) (sym (take-append-drop j l))
+    ∙ ap (take j) (overwrite-append i p (take j l) (drop j l) (omega arith))
+    ∙ take-at (overwriteAt i p (take j l)) (drop j l) j (length-overwriteAt i p (take j l) (omega arith) ∙ k)
+
+-- a piece written at the end of the front
+pub take-added : (i j : ℕ) (p l : List ℕ) → i + length p ≡ j → i ≤ length l → take j (overwriteAt i p l) ≡ take i l ++ p
+unfolding overwriteAt
+take-added i j p l e n =
+    take-at (take i l ++ p) (drop (i + length p) l) j (length-append (take i l) p ∙ omega (arith, length-take-le i l n))
+
+-- a sheet cut into records
+pub length-cut : (n : ℕ) (l : List ℕ) → length (cut n l) ≡ n
+unfolding cut
+length-cut zero l = refl
+length-cut (suc n) l = ap suc (length-cut n (drop 40 l))
+
+pub forty-cut : (n : ℕ) (l : List ℕ) → 40 * n ≤ length l → Forty (cut n l)
+unfolding cut
+forty-cut zero l h = tt
+forty-cut (suc n) l h = (length-take-le 40 l (omega arith), forty-cut n (drop 40 l) (omega (arith, length-drop 40 l)))
+
+pub joined-cut : (n : ℕ) (l : List ℕ) → joined (cut n l) ≡ take (40 * n) l
+unfolding cut joined
+joined-cut zero l = refl
+joined-cut (suc n) l =
+    let e : 40 + 40 * n ≡ 40 * suc n = omega arith in
+    ap (λ (z : List ℕ). take 40 l ++ z) (joined-cut n (drop 40 l)) ∙ sym (take-add 40 (40 * n) l) ∙ ap (λ (i : ℕ). take i l) e

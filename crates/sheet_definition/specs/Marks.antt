@@ -1,0 +1,102 @@
+-- The sheet's marks and the work from a mark to the end: document 01, "Sheet and marks". A sheet is its bytes, of which the first 40n count; a
+-- mark is 40 words, the state after the groups before it.
+use mathlib.Core.Path.{_≡_}
+use Prim.Native.Nat.{ℕ, zero, suc, _+_, _-_, _*_, _≤_}
+use mathlib.Core.List.{List, [], _∷_, _++_}
+use lib.ListN.{length, getD, take, drop}
+use Rattle.definition.specs.declared.Block.{Block}
+use Rattle.definition.specs.declared.Width.{Width}
+use Rattle.definition.specs.Word.{bytesOfAll}
+use Rattle.definition.specs.Round.{chain}
+use Rattle.definition.specs.Padding.{closing, padded, blocks}
+use Rattle.definition.specs.Start.{blockCount, start}
+use Rattle.definition.specs.Final.{finalRounds, final}
+use Rattle.definition.specs.State.{five, stateOf}
+use Rattle.definition.specs.Luffa.{widthAt, wordsAt}
+use Rattle.definition.specs.Buffer.{overwriteAt}
+use Rattle.definition.specs.Block.{wordsOfAll}
+use Rattle.sheet_definition.specs.Sheet.{recordBytes, markWords, q}
+
+-- the bytes of a group: four records, five message blocks
+abbrev pub groupBytes : ℕ
+groupBytes = 160
+
+-- the bytes of n records
+unfoldable pub held : (n : ℕ) → List ℕ → List ℕ
+held n sheet = take (recordBytes * n) sheet
+
+-- the words of mark m
+unfoldable pub markAt : List ℕ → ℕ → List ℕ
+markAt marks m = take markWords (drop (markWords * m) marks)
+
+-- eight words as a block
+unfoldable pub blockFrom : List ℕ → Block
+blockFrom ws =
+    record {
+      a0 = getD ws 0 0;
+      a1 = getD ws 1 0;
+      a2 = getD ws 2 0;
+      a3 = getD ws 3 0;
+      a4 = getD ws 4 0;
+      a5 = getD ws 5 0;
+      a6 = getD ws 6 0;
+      a7 = getD ws 7 0;
+    }
+
+-- the state that a mark holds: its first w blocks; the words of unused blocks are not read
+unfoldable pub stateFrom : Width → List ℕ → List Block
+stateFrom w ws =
+    take (blockCount w)
+    (blockFrom ws
+    ∷ blockFrom (drop 8 ws)
+    ∷ blockFrom (drop 16 ws)
+    ∷ blockFrom (drop 24 ws)
+    ∷ blockFrom (drop 32 ws)
+    ∷ [])
+
+-- the words of a mark that holds a state: unused blocks are zero
+unfoldable pub markOf : List Block → List ℕ
+markOf h = wordsOfAll (five (stateOf h))
+
+-- the words of the marks after the next k groups of x, from state h
+unfoldable pub marksAfter : Width → (k : ℕ) → List Block → List ℕ → List ℕ
+marksAfter w zero h x = []
+marksAfter w (suc k) h x =
+    let h' : List Block = chain w h (blocks (take groupBytes x)) in
+    markOf h' ++ marksAfter w k h' (drop groupBytes x)
+
+-- the digest of a sheet whose last bytes are x, from the state before them
+unfoldable pub digestAfter : (code : ℕ) → List Block → List ℕ → List ℕ
+digestAfter code h x =
+    bytesOfAll (final (widthAt code) (wordsAt code) (chain (widthAt code) h (blocks (padded closing x))))
+
+-- the rounds that are run for it: one for each block of the padded bytes, and the final stage's
+unfoldable pub roundsAfter : (code : ℕ) → List ℕ → ℕ
+roundsAfter code x = length (blocks (padded closing x)) + finalRounds (wordsAt code)
+
+-- what working on from mark m to the end of n records leaves: the marks after m rewritten, the digest, and the rounds
+pub record Worked : Type 0 where
+  pub marks : List ℕ
+  pub digest : List ℕ
+  pub rounds : ℕ
+
+unfoldable pub worked : (code n : ℕ) → (sheet marks : List ℕ) → (m : ℕ) → Worked
+worked code n sheet marks m =
+    let w : Width = widthAt code in
+    let h : List Block = stateFrom w (markAt marks m) in
+    let x : List ℕ = drop (groupBytes * m) (held n sheet) in
+    record {
+      marks = overwriteAt (markWords * (m + 1)) (marksAfter w (q n - m) h x) marks;
+      digest = digestAfter code h x;
+      rounds = roundsAfter code x;
+    }
+
+-- mark m is true when it holds the state after the groups before it
+unfoldable pub TrueMark : (code : ℕ) → (sheet marks : List ℕ) → (m : ℕ) → Type 0
+TrueMark code sheet marks m =
+    stateFrom (widthAt code) (markAt marks m)
+    ≡ chain (widthAt code) (start (widthAt code)) (blocks (take (groupBytes * m) sheet))
+
+-- the marks of a sheet of n records are true when each of marks 0 to q is
+unfoldable pub TrueMarks : (code n : ℕ) → (sheet marks : List ℕ) → Type 0
+TrueMarks code n sheet marks = (m : ℕ) → m ≤ q n → TrueMark code sheet marks m

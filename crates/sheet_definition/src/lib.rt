@@ -1,0 +1,9 @@
+// The plain data that the definitions of the sheet and the code of the sheet family share. No code stands here.
+
+// What a sheet call answers: the refusal number or 0, the records of the sheet, and the rounds run (document 01, "Sheet and marks").
+#[repr(C)]
+pub struct Answer {
+    pub number: u64,
+    pub count: u64,
+    pub rounds: u64,
+}
