@@ -75,6 +75,15 @@ pub fn put_bytes(b: &mut [u8], i: usize, t: &[u8])
     }
 }
 
+// A buffer of 32 bytes by value with bytes written from place i on; as it was where there is no room for them.
+pub fn pasted(p: [u8; 32], i: usize, t: &[u8]) -> [u8; 32]
+    ensures { λ r. ⌜ r ≡ writeAt i (now (t .entry)) p ⌝ }
+{
+    let mut q = p;
+    put_bytes(&mut q, i, t);
+    q
+}
+
 // A word's four bytes, the highest first, from place i on; nothing where there is no room for them.
 pub fn put_word(out: &mut [u8], i: usize, a: u32)
     ensures { λ _. ⌜ now (out .exit) ≡ writeAt i (bytesOf a) (now (out .entry)) ⌝ }

@@ -1,6 +1,3 @@
 -- Laws that the proofs of the calls share.
 pub mod Output
-pub mod Places
-pub mod Tests
-pub mod Pieces
-pub mod Memory
+pub mod Framed

@@ -1,23 +1,19 @@
 // Luffa over messages and kept hash records: digest, start, feed, finish (document 01, "The kept hash record" and refusals 1 to 4). Each
 // call's outcome, the number and the buffer that was lent for writing, is one function of its inputs.
-mod kept;
-pub mod lent;
-mod record;
-
 ghost use mathlib.Core.Path.{_≡_};
 ghost use Rattle.hash_definition.specs.Calls.{digestOutcome, startOutcome, feedOutcome, finishOutcome};
 use definition::Counted;
 
 // The refusal numbers of document 01.
-pub const DONE: u32 = 0;
+pub const DONE: u32 = hash_kept::DONE;
 
-pub const WIDTH: u32 = 1;
+pub const WIDTH: u32 = hash_kept::WIDTH;
 
-pub const OUT: u32 = 2;
+pub const OUT: u32 = hash_kept::OUT;
 
-pub const RECORD: u32 = 3;
+pub const RECORD: u32 = hash_kept::RECORD;
 
-pub const LONG: u32 = 4;
+pub const LONG: u32 = hash_kept::LONG;
 
 // The digest of a message in one call.
 pub fn digest(code: usize, message: &[u8], out: &mut [u8]) -> u32
@@ -30,7 +26,7 @@ pub fn digest(code: usize, message: &[u8], out: &mut [u8]) -> u32
     if out.len() < 4 * words {
         return OUT;
     }
-    if record::LIMIT < message.len() {
+    if hash_kept::LIMIT < message.len() {
         return LONG;
     }
     let w = codes::width(code);
@@ -50,10 +46,10 @@ pub fn start(code: usize, record: &mut [u8]) -> u32
     if !codes::known(code) {
         return WIDTH;
     }
-    if record.len() != record::LENGTH {
+    if record.len() != hash_record::LENGTH {
         return RECORD;
     }
-    record::encode(kept::started(code), record);
+    hash_record::encode(hash_working::started(code), record);
     DONE
 }
 
@@ -61,14 +57,17 @@ pub fn start(code: usize, record: &mut [u8]) -> u32
 pub fn feed(record: &mut [u8], piece: &[u8]) -> u32
     ensures { λ r. ⌜ record { number = r; buffer = now («record» .exit) } ≡ feedOutcome (now («record» .entry)) (now (piece .entry)) ⌝ }
 {
-    if !record::well_formed(record) {
+    let found = hash_record::read(record);
+    if !found.framed {
         return RECORD;
     }
-    let k = record::decode(record);
-    if (record::LIMIT as u64) - k.count < piece.len() as u64 {
-        return LONG;
+    let k = found.kept;
+    let a = hash_pieces::fed_answer(k, piece);
+    if a.number != DONE {
+        return a.number;
     }
-    record::encode(kept::fed(k, piece), record);
+    let after = a.kept;
+    hash_record::encode(after, record);
     DONE
 }
 
@@ -76,8 +75,10 @@ pub fn feed(record: &mut [u8], piece: &[u8]) -> u32
 pub fn finish(record: &[u8], out: &mut [u8]) -> u32
     ensures { λ r. ⌜ record { number = r; buffer = now (out .exit) } ≡ finishOutcome (now («record» .entry)) (now (out .entry)) ⌝ }
 {
-    if !record::well_formed(record) {
+    let found = hash_record::read(record);
+    if !found.framed {
         return RECORD;
     }
-    lent::finished_answer(record::decode(record), out)
+    let k = found.kept;
+    hash_working::finished_answer(k, out)
 }

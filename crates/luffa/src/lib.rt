@@ -1,5 +1,6 @@
 // Everything that C can call, and nothing else: thin exports, each with the contract of the function that it calls. include/luffa.h declares
-// them; a slice is a pointer and then a length.
+// them; a slice is a pointer and then a length. The three over a lent struct copy it out, have the answer worked out by value, and store the
+// struct that the answer holds; they are what a program in Rattle calls too.
 ghost use mathlib.Core.Path.{_≡_};
 ghost use Rattle.hash_definition.specs.Calls.{digestOutcome, startOutcome, feedOutcome, finishOutcome};
 ghost use Rattle.hash_definition.specs.Lent.{lentStartOutcome, lentFeedOutcome, lentFinishOutcome};
@@ -44,7 +45,10 @@ pub extern "C" fn luffa_finish(record: &[u8], out: &mut [u8]) -> u32
 pub extern "C" fn luffa_hash_start(code: usize, hash: &mut Kept) -> u32
     ensures { λ r. ⌜ record { number = r; kept = now (hash .exit) } ≡ lentStartOutcome code (now (hash .entry)) ⌝ }
 {
-    hash::lent::start(code, hash)
+    let v = *hash;
+    let a = hash_working::started_answer(code, v);
+    *hash = a.kept;
+    a.number
 }
 
 // A piece fed to a working state, which is altered where it stands.
@@ -52,7 +56,10 @@ pub extern "C" fn luffa_hash_start(code: usize, hash: &mut Kept) -> u32
 pub extern "C" fn luffa_hash_feed(hash: &mut Kept, piece: &[u8]) -> u32
     ensures { λ r. ⌜ record { number = r; kept = now (hash .exit) } ≡ lentFeedOutcome (now (hash .entry)) (now (piece .entry)) ⌝ }
 {
-    hash::lent::feed(hash, piece)
+    let v = *hash;
+    let a = hash_pieces::fed_answer(v, piece);
+    *hash = a.kept;
+    a.number
 }
 
 // The digest of what a working state was fed.
@@ -60,7 +67,8 @@ pub extern "C" fn luffa_hash_feed(hash: &mut Kept, piece: &[u8]) -> u32
 pub extern "C" fn luffa_hash_finish(hash: &Kept, out: &mut [u8]) -> u32
     ensures { λ r. ⌜ record { number = r; buffer = now (out .exit) } ≡ lentFinishOutcome (now (hash .entry)) (now (out .entry)) ⌝ }
 {
-    hash::lent::finish(hash, out)
+    let v = *hash;
+    hash_working::finished_answer(v, out)
 }
 
 // All marks of a sheet, and its digest.

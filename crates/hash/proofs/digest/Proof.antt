@@ -1,16 +1,19 @@
 -- `hash::digest` meets its contract: at each return the tests that led there say which refusal is first, and the accepted call's rounds are
 -- those of the definition.
 -- Assumes nothing.
-use mathlib.Core.Path.{sym, ap, _∙_}
+use mathlib.Core.Path.{_≡_, sym, ap, _∙_}
 use mathlib.Core.List.{List}
-use Prim.Native.Nat.{ℕ}
+use Prim.Native.Nat.{ℕ, _/_, min}
 use native.Mathlib.Nat.{zero-add}
 use native.Mathlib.Omega.{arith}
 use denote.Ref.{now}
 use borrow.Author.Needs.{needs}
 use borrow.Author.Tests.{lt-ltb, le-ltb, not-true, not-false}
+use lib.ListN.{length}
 use Rattle.definition.specs.Word.{bytesOfAll}
 use Rattle.definition.specs.Buffer.{overwrite}
+use Rattle.definition.specs.Final.{final}
+use Rattle.definition.specs.State.{blocksIn}
 use Rattle.definition.specs.Luffa.{bytesAt}
 use Rattle.definition.specs.Refusal.{pick, firstOf, widthRefusal, outRefusal}
 use Rattle.hash_definition.specs.Calls.{longRefusal, digestRefusals, digestOutcome}
@@ -58,8 +61,11 @@ returns-4 c =
     let a = n .before .before .before .before .before .args in
     let room = rw (n .words .ensures) at (b2 .if2 .left) in
     let out = now (a .out) in
+    -- what is put out are the digest's words of the state after the padded message
+    let z : _ ≡ overwrite (bytesOfAll (final (w .width .result) (min (n .words .result) (length out / 4)) (blocksIn (w .width .result) (l .absorb-last .result .state)))) out =
+    q .squeeze .ensures .1 in
     let e =
-    (rw (l .absorb-last .ensures, n .words .ensures, w .width .ensures) at (q .squeeze .ensures .1))
+    (rw (l .absorb-last .ensures, n .words .ensures, w .width .ensures) at z)
     ∙ ap (λ (ws : List ℕ). overwrite (bytesOfAll ws) out) (squeezed-out (a .code) _ _ out room)
     ∙ ap (λ (p : List ℕ). overwrite p out)
     (whole-message (a .code) (now (a .message)) _ (rw (w .width .ensures) at (s .start .ensures))) in

@@ -1,84 +1,56 @@
--- `hash::feed` meets its contract: at each return the tests that led there say which refusal is first.
+-- `hash::feed` meets its contract: a record whose frame is right is fed as what it holds.
 -- Assumes nothing.
 use mathlib.Core.Path.{_≡_, sym, ap, _∙_}
 use mathlib.Core.Bool.{true}
 use mathlib.Core.List.{List}
-use Prim.Native.Nat.{ℕ, _+_, _<_, _≤_}
-use native.Mathlib.Omega.{arith}
+use Prim.Native.Nat.{ℕ}
 use denote.Ref.{now}
 use borrow.Author.Needs.{needs}
-use borrow.Author.Tests.{lt-ltb, le-ltb, not-true, not-false}
-use lib.ListN.{length}
-use Rattle.hash_definition.specs.declared.Kept.{Kept}
-use Rattle.definition.specs.Refusal.{pick, firstOf}
-use Rattle.hash_definition.specs.Record.{limit, wellFormed, encode, decode, fed}
-use Rattle.hash_definition.specs.Calls.{recordRefusal, longRefusal, feedRefusals, feedOutcome}
-use Rattle.hash_definition.proofs.Refused.{refused, accepted}
-use Rattle.hash_definition.proofs.Formed.{formed}
+use borrow.Author.Tests.{not-true, not-false}
+use Rattle.hash_definition.specs.Record.{decode}
+use Rattle.hash_definition.specs.Lent.{lentFeedOutcome}
+use Rattle.hash_record.specs.Reading.{framed}
+use Rattle.hash_record.proofs.Places.{written-whole}
+use Rattle.hash.proofs.Framed.{frame, unframed-feed, framed-length, held, feed-refused, feed-done}
 use Rattle.hash.proofs.feed.Statement.{statement}
 use Rattle.hash.proofs.feed.Tie as tie
 
+abbrev start : tie.After-read → tie.Start
+start c = c .before .before .before .before
+
 returns : tie.Need-returns
-unfolding feedOutcome feedRefusals firstOf pick recordRefusal
 returns c =
-    let f = sym (c .before .well-formed .ensures) ∙ not-true _ (c .if1 .taken) in
-    refused _ _ _ 2 (rw f)
+    let f = c .before .before in
+    unframed-feed (now (start f .args .«record»)) (sym (frame _ _ (f .read .ensures)) ∙ not-true _ (c .if1 .taken)) (now (start f .args .piece))
 
--- the record passed the first test
-passed : (c : tie.Else1) → wellFormed (now (c .before .before .before .before .before .args .«record»)) ≡ true
-passed c = sym (c .before .well-formed .ensures) ∙ not-false _ (c .if1 .left)
+-- the frame is right
+right : (c : tie.Else1) → framed (now (start (c .before .before) .args .«record»)) ≡ true
+right c = sym (frame _ _ (c .before .before .read .ensures)) ∙ not-false _ (c .if1 .left)
 
-decode-requires : tie.Need-decode-requires
-decode-requires c κs = formed _ (passed (c .before)) .size
+-- and the answer is that over what the record holds
+abbrev entered : tie.After-fed-answer → tie.Else1
+entered c = c .before .before
 
-sub-if2 : tie.Need-sub-if2
-sub-if2 c =
-    let d = c .before in
-    let f = formed _ (passed (d .before .before)) in
-    omega (arith, f .within, ap (λ (k : Kept). k .count) (d .decode .ensures))
+abbrev from : tie.After-fed-answer → tie.Start
+from c = start (entered c .before .before)
+
+answer : (c : tie.After-fed-answer) → c .fed-answer .result ≡ lentFeedOutcome (decode (now (from c .args .«record»))) (now (from c .args .piece))
+answer c = rw (held _ (right (entered c)) _ (entered c .before .before .read .ensures)) at (c .fed-answer .ensures)
 
 returns-2 : tie.Need-returns-2
-unfolding feedOutcome feedRefusals firstOf pick recordRefusal longRefusal
 returns-2 c =
-    let d = c .before .before in
-    let e = d .before .before in
-    let f = formed _ (passed e) in
-    let a = e .before .before .before .before .before .args in
-    let l : limit < decode (now (a .«record»)) .count + length (now (a .piece)) =
-    omega (arith, f .within, rw (d .decode .ensures) at (c .if2 .taken)) in
-    refused _ _ _ 3 (rw (passed e, lt-ltb _ _ l))
-
--- what the piece may add
-fits : (c : tie.Else2)
-    → decode (now (c .before .before .before .before .before .before .before .before .before .args .«record»)) .count
-    + length (now (c .before .before .before .before .before .before .before .before .before .args .piece))
-    ≤ limit
-fits c =
-    let d = c .before .before in
-    let f = formed _ (passed (d .before .before)) in
-    omega (arith, f .within, rw (d .decode .ensures) at (c .if2 .left))
-
-fed-requires : tie.Need-fed-requires
-fed-requires c κs =
-    let d = c .before .before in
-    let f = formed _ (passed (d .before .before)) in
-    rw (d .decode .ensures) (f .buffer, f .holds, fits c)
-
-encode-requires : tie.Need-encode-requires
-encode-requires c κs =
-    let f = formed _ (passed (c .before .before .before .before .before .before)) in
-    (f .size, search needs)
+    let a = c .before .before in
+    feed-refused (now (from a .args .«record»)) (right (entered a)) (now (from a .args .piece)) _ (answer a) (c .if2 .taken)
 
 returns-3 : tie.Need-returns-3
-unfolding feedOutcome feedRefusals firstOf pick recordRefusal longRefusal
 returns-3 c =
-    let e = c .before .before in
-    let f = e .before .before in
-    let i = f .before in
-    let d = i .before .before in
-    ap (λ (b : List ℕ). record { number = 0; buffer = b })
-    (e .encode .ensures ∙ ap encode (rw (d .decode .ensures) at (f .fed .ensures)))
-    ∙ accepted _ _ _ (rw (passed (d .before .before), le-ltb _ _ (fits i)))
+    let w = c .before .before in
+    let d = w .before .before .before in
+    let a = d .before .before in
+    let r = now (from a .args .«record») in
+    let f = right (entered a) in
+    ap (λ (b : List ℕ). record { number = 0; buffer = b }) (w .encode .ensures ∙ written-whole _ r (framed-length r f))
+    ∙ feed-done r f (now (from a .args .piece)) _ (answer a) (d .if2 .left)
 
 pub feed-spec : {M : Type 1} → statement M
 feed-spec =
@@ -87,11 +59,9 @@ feed-spec =
     (λ c κs. tt)
     (λ c. search needs)
     returns
-    decode-requires
-    sub-if2
+    (λ c κs. tt)
     (λ c. search needs)
     returns-2
-    fed-requires
-    encode-requires
+    (λ c κs. tt)
     (λ c. search needs)
     returns-3)

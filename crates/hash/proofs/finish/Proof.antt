@@ -1,39 +1,25 @@
--- `hash::finish` meets its contract: a record that is well formed is finished as the working state that it holds.
+-- `hash::finish` meets its contract: a record whose frame is right is finished as what it holds.
 -- Assumes nothing.
-use mathlib.Core.Path.{_≡_, sym, _∙_}
-use mathlib.Core.Bool.{true}
+use mathlib.Core.Path.{sym, _∙_}
 use denote.Ref.{now}
 use borrow.Author.Needs.{needs}
 use borrow.Author.Tests.{not-true, not-false}
-use Rattle.definition.specs.Refusal.{pick, firstOf}
-use Rattle.hash_definition.specs.Record.{wellFormed, decode}
-use Rattle.hash_definition.specs.Calls.{recordRefusal, finishRefusals, finishOutcome}
-use Rattle.hash_definition.proofs.Refused.{refused}
-use Rattle.hash_definition.proofs.Working.{held-finish}
-use Rattle.hash_definition.proofs.Formed.{formed}
+use Rattle.hash.proofs.Framed.{frame, unframed-finish, held, finish-held}
 use Rattle.hash.proofs.finish.Statement.{statement}
 use Rattle.hash.proofs.finish.Tie as tie
 
 returns : tie.Need-returns
-unfolding finishOutcome finishRefusals firstOf pick recordRefusal
 returns c =
-    let f = sym (c .before .well-formed .ensures) ∙ not-true _ (c .if1 .taken) in
-    refused _ _ _ 2 (rw f)
-
--- the record passed the test
-passed : (c : tie.Else1) → wellFormed (now (c .before .before .before .before .args .«record»)) ≡ true
-passed c = sym (c .before .well-formed .ensures) ∙ not-false _ (c .if1 .left)
-
-decode-requires : tie.Need-decode-requires
-decode-requires c κs = formed _ (passed c) .size
-
-finished-answer-requires : tie.Need-finished-answer-requires
-finished-answer-requires c κs = rw (c .before .decode .ensures) (formed _ (passed (c .before .before)) .buffer)
+    let f = c .before .before in
+    unframed-finish _ (sym (frame _ _ (f .read .ensures)) ∙ not-true _ (c .if1 .taken)) (now (f .before .before .before .args .out))
 
 returns-2 : tie.Need-returns-2
 returns-2 c =
-    let d = c .before .before .before .before in
-    (rw (d .decode .ensures) at (c .before .before .finished-answer .ensures)) ∙ sym (held-finish _ _ (passed (d .before)))
+    let a = c .before .before in
+    let e = a .before .before .before in
+    let f = e .before .before in
+    let right = sym (frame _ _ (f .read .ensures)) ∙ not-false _ (e .if1 .left) in
+    (rw (held _ right _ (f .read .ensures)) at (a .finished-answer .ensures)) ∙ finish-held _ right _
 
 pub finish-spec : {M : Type 1} → statement M
-finish-spec = tie.close (tie.spec (λ c κs. tt) returns decode-requires finished-answer-requires (λ c. search needs) returns-2)
+finish-spec = tie.close (tie.spec (λ c κs. tt) returns (λ c κs. tt) (λ c. search needs) returns-2)

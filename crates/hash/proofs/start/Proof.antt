@@ -9,6 +9,7 @@ use Rattle.definition.specs.Refusal.{pick, firstOf, widthRefusal}
 use Rattle.hash_definition.specs.Record.{encode}
 use Rattle.hash_definition.specs.Calls.{startRefusals, startOutcome}
 use Rattle.hash_definition.proofs.Refused.{refused, accepted}
+use Rattle.hash_record.proofs.Places.{written-whole}
 use Rattle.hash.proofs.start.Statement.{statement}
 use Rattle.hash.proofs.start.Tie as tie
 
@@ -32,10 +33,10 @@ returns-3 c =
     let b2 = s .before in
     let b1 = b2 .before in
     let k = sym (b1 .before .known .ensures) ∙ not-false _ (b1 .if1 .left) in
-    ap (λ (b : List ℕ). record { number = 0; buffer = b }) (e .encode .ensures ∙ ap encode (s .started .ensures))
+    ap (λ (b : List ℕ). record { number = 0; buffer = b }) (e .encode .ensures ∙ written-whole _ _ (b2 .if2 .left) ∙ ap encode (s .started .ensures))
     ∙ accepted _ _ _ (rw (k, eq-eqb _ _ (b2 .if2 .left)))
 
 pub start-spec : {M : Type 1} → statement M
 start-spec =
     tie.close
-    (tie.spec (λ c κs. tt) returns returns-2 (λ c κs. tt) (λ c κs. search needs) (λ c. search needs) returns-3)
+    (tie.spec (λ c κs. tt) returns returns-2 (λ c κs. tt) (λ c κs. tt) (λ c. search needs) returns-3)

@@ -1,0 +1,2 @@
+-- Laws that the proofs share.
+pub mod Pieces

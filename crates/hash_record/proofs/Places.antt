@@ -1,0 +1,91 @@
+-- The record's layout: parts read where they lie, and the whole written part by part.
+-- Assumes nothing.
+use mathlib.Core.Path.{_≡_, refl, sym, ap, _∙_}
+use mathlib.Core.List.{List, [], _∷_, _++_, append-assoc, append-nil}
+use Prim.Native.Nat.{ℕ, _+_, _-_, _*_, _%_, _<_, _≤_}
+use native.Mathlib.Nat.{mod-lt, zero-lt-suc}
+use native.Mathlib.Omega.{arith}
+use borrow.Author.Tests.{eq-eqb, le-leb}
+use lib.ListN.{length, take, drop, replicate, length-append, length-drop, drop-of-length-le}
+use Rattle.hash_definition.specs.declared.Kept.{Kept}
+use Rattle.definition.specs.Word.{wordOf, bytesOf, bytesOfAll}
+use Rattle.definition.specs.Block.{blockOf, wordAt, wordsOf, wordsOfAll}
+use Rattle.definition.specs.State.{five}
+use Rattle.definition.specs.Buffer.{overwriteAt}
+use Rattle.bytes.specs.Total.{blockWhen, firstBlock, wordWhen, firstWord, writeAt}
+use Rattle.hash_definition.specs.Record.{recordLength, countWords, encode}
+use Rattle.hash_record.specs.Reading.{writeWhen, written}
+use Rattle.definition.proofs.Word.{bytes-of-word, length-bytes}
+use Rattle.bytes.proofs.Total.{write-at, writeAt-more}
+use Rattle.bytes.proofs.Parts.{part-rest}
+
+-- a block and a word read from a part
+pub part-block : (b : List ℕ) (n : ℕ) → n + 32 ≤ length b → firstBlock (take (length b - n) (drop n b)) ≡ blockOf (drop n b)
+unfolding firstBlock blockWhen
+part-block b n h =
+    let e : 32 ≤ length (drop n b) = omega (arith, length-drop n b) in
+    rw (part-rest n b, le-leb 32 (length (drop n b)) e)
+
+pub part-word : (b : List ℕ) (n : ℕ) → n + 4 ≤ length b → firstWord (take (length b - n) (drop n b)) ≡ wordAt (drop n b) 0
+unfolding firstWord wordWhen
+part-word b n h =
+    let e : 4 ≤ length (drop n b) = omega (arith, length-drop n b) in
+    rw (part-rest n b, le-leb 4 (length (drop n b)) e)
+
+zeros : (x : ℕ) → (x ∷ 0 ∷ 0 ∷ 0 ∷ []) ++ bytesOf 0 ≡ x ∷ replicate 7 0
+unfolding bytesOf
+zeros x = refl
+
+-- the code's byte and seven zeros, as two words
+pub header : (x : ℕ) → x < 256 → bytesOf (x * 16777216) ++ bytesOf 0 ≡ x ∷ replicate 7 0
+unfolding wordOf
+header x h =
+    let e : x * 16777216 ≡ wordOf x 0 0 0 = omega arith in
+    ap (λ (l : List ℕ). l ++ bytesOf 0) (ap bytesOf e ∙ bytes-of-word x 0 0 0 h (omega arith) (omega arith) (omega arith))
+    ∙ zeros x
+
+-- a whole buffer written from its front is what was written
+pub all-written : (p l : List ℕ) → length p ≡ length l → overwriteAt 0 p l ≡ p
+unfolding overwriteAt
+all-written p l e = rw (drop-of-length-le l {i = 0 + length p} (omega arith)) (append-nil p)
+
+-- the front of a record: two words for the code and seven zeros, and the forty words of the state
+unfoldable pub frontWords : Kept → List ℕ
+frontWords k = k .code % 256 * 16777216 ∷ 0 ∷ wordsOfAll (five (k .state))
+
+length-front : (k : Kept) → length (bytesOfAll (frontWords k)) ≡ 168
+unfolding frontWords wordsOfAll five wordsOf
+length-front k = length-bytes (frontWords k)
+
+front-bytes : (k : Kept) → bytesOfAll (frontWords k) ≡ (k .code % 256 ∷ replicate 7 0) ++ bytesOfAll (wordsOfAll (five (k .state)))
+unfolding frontWords bytesOfAll
+front-bytes k =
+    sym (append-assoc (bytesOf (k .code % 256 * 16777216)) (bytesOf 0) (bytesOfAll (wordsOfAll (five (k .state)))))
+    ∙ ap (λ (l : List ℕ). l ++ bytesOfAll (wordsOfAll (five (k .state)))) (header (k .code % 256) (mod-lt (k .code) (zero-lt-suc 255)))
+
+length-count : (n : ℕ) → length (bytesOfAll (countWords n)) ≡ 8
+unfolding countWords
+length-count n = length-bytes (countWords n)
+
+-- front, pending bytes and count, written one after the other, are the record
+pub all-parts : (k : Kept) (b : List ℕ) → length b ≡ 208 → length (k .pending) ≡ 32
+    → writeAt 200 (bytesOfAll (countWords (k .count))) (writeAt 168 (k .pending) (writeAt 0 (bytesOfAll (frontWords k)) b))
+    ≡ encode k
+unfolding encode
+all-parts k b h e =
+    let p : List ℕ = bytesOfAll (frontWords k) in
+    let v : List ℕ = bytesOfAll (countWords (k .count)) in
+    let n : length p ≡ 168 = length-front k in
+    let m : length v ≡ 8 = length-count (k .count) in
+    let q : length (p ++ k .pending) ≡ 200 = omega (arith, length-append p (k .pending)) in
+    let l : length (p ++ k .pending ++ v) ≡ 208 = omega (arith, length-append (p ++ k .pending) v) in
+    rw (writeAt-more 0 168 p (k .pending) b (omega arith) (omega arith))
+    (writeAt-more 0 200 (p ++ k .pending) v b (omega arith) (omega arith)
+    ∙ write-at 0 (p ++ k .pending ++ v) b (omega arith)
+    ∙ all-written (p ++ k .pending ++ v) b (omega arith)
+    ∙ ap (λ (l : List ℕ). l ++ k .pending ++ v) (front-bytes k))
+
+-- a buffer of 208 bytes is written whole
+pub written-whole : (k : Kept) (b : List ℕ) → length b ≡ recordLength → written k b ≡ encode k
+unfolding written writeWhen
+written-whole k b h = rw (eq-eqb (length b) recordLength h)
