@@ -1,0 +1,284 @@
+"""Reads the text of crates/: the functions of .rt files with their clauses and calls, and what .antt text imports and declares.
+
+It knows the layout of the sources and no rule: check.py holds them to the rules. What is costly is remembered by the text it was read from.
+"""
+import re
+from dataclasses import dataclass, field
+from functools import cache
+from pathlib import Path
+
+OPEN, CLOSE = "({[⌜⟦", ")}]⌝⟧"
+ANTT_COMMENT = re.compile(r"(?<!\S)--[^\n]*|\{-.*?-\}", re.S)
+LITERAL_OR_COMMENT = re.compile(r'"(?:\\.|[^"\\])*"|b?\'(?:\\.|[^\'\\])\'|//[^\n]*|/\*.*?\*/', re.S)
+HEAD = re.compile(r'(?P<mark>\bpub(?P<within>\s*\([^)]*\))?\s+)?(?:extern\s+"C"\s+)?\bfn\s+(?P<name>\w+)\s*(?:<[^>(]*>)?\s*\(')
+CLAUSE = re.compile(r"\s*(requires|ensures|ghost)\s*\{")
+TO_CLAUSES = re.compile(r"(?:\[[^\]]*\]|[^{;\[])*?(?=\s*(?:requires|ensures|ghost)\s*\{|\{|;)")
+CALL = re.compile(r"(?<![\w.:])((?:\w+::)*\w+)\s*\(")
+RT_USE = re.compile(r"(?<!ghost )\buse\s+([\w:]+)(?:\s+as\s+(\w+))?\s*;")
+IMPORT = re.compile(r"^[ \t]*(?:(?:ghost|pub|unfoldable)\s+)*use\s+(?P<path>[^\s{};]+)(?:\s*\{(?P<items>[^}]*)\})?(?:\s+as\s+(?P<alias>[^\s;]+))?", re.M)
+BETWEEN, EQUALS = re.compile(r"\s(?:×|→|∗|∧|⊎|∨|in|do)\s|[;,]|λ[^.]*\.\s"), re.compile(r"\s≡\s")
+MARKS = r"(?:(?:unfoldable|abbrev|pub|record|data|axiom)\s+)*"
+ASSUMING = re.compile(r"\b(?:axiom|postulate|assume|trust|Axiom)\b")
+IMPLICIT = r"(?:\s+\{[^}\n]*\})*"
+DECLARED = re.compile(
+    rf"^(?:{MARKS}|[ \t]+pub\s+)([^\s:(){{}}]+){IMPLICIT}\s*:(?=\s)|^(?:pub\s+)?(?:record|data)\s+([^\s:(){{}}]+)", re.M
+)
+BINDING = [
+    re.compile(form, re.M)
+    for form in (
+        rf"^[ \t]*{MARKS}([^\s:(){{}}]+){IMPLICIT}\s+:\s",
+        r"\blet\s+([^\s:=]+)\s*[:=]",
+        r"[({]\s*((?:[^\s(){}:=]+\s+)+):\s",
+        r"λ\s*((?:[^\s.λ(){}]+\s+)*[^\s.λ(){}]+)\s*\.\s",
+        r"^([^\s:=][^:=\n]*?)\s=(?:\s|$)",
+        r"^[ \t]*(?:pub\s+)?mod\s+(\S+)",
+    )
+]
+
+
+def spaced(text):
+    """The text with every run of white space as one space."""
+    return " ".join(text.split())
+
+
+@cache
+def without_comments(text, suffix):
+    """The text without its comments, each line where it was; brackets in quoted text are blotted out."""
+    if suffix == ".antt":
+        return ANTT_COMMENT.sub(lambda m: "\n" * m[0].count("\n"), text)
+    return LITERAL_OR_COMMENT.sub(
+        lambda m: "\n" * m[0].count("\n") if m[0].startswith("/") else re.sub(r"[(){}\[\]]", " ", m[0]), text
+    )
+
+
+def read(path):
+    return without_comments(path.read_text(), path.suffix)
+
+
+def matching(text, opened):
+    """The place of the bracket that closes the one at `opened`."""
+    depth = 0
+    for i in range(opened, len(text)):
+        depth += (text[i] in OPEN) - (text[i] in CLOSE)
+        if depth == 0:
+            return i
+    return len(text)
+
+
+# -- Functions of .rt files
+
+
+@dataclass(frozen=True)
+class Function:
+    path: str  # crate::module::name
+    file: Path
+    public: bool
+    parameters: tuple  # (name, type)
+    answers: bool  # it returns something
+    requires: tuple
+    ensures: tuple
+    body: str = field(repr=False)
+
+    @property
+    def crate(self):
+        return self.path.split("::")[0]
+
+    @property
+    def module(self):
+        return self.path.rpartition("::")[0]
+
+
+def module_of(file):
+    """crates/hash/src/lent.rt holds the module hash::lent, lib.rt and main.rt the crate itself."""
+    parts = file.with_suffix("").parts
+    at = max(i for i, part in enumerate(parts) if part == "src")
+    inside = parts[at + 1:-1] if parts[-1] in ("lib", "main", "mod") else parts[at + 1:]
+    return "::".join([parts[at - 1], *inside])
+
+
+def parameters_of(text):
+    """The parameters of a signature as (name, type), in order."""
+    parts = re.split(r",(?![^\[<(]*[\]>)])", text)
+    pairs = (part.partition(":") for part in parts if ":" in part)
+    return tuple((re.sub(r"^\s*mut\s+", "", name).strip(), spaced(kind)) for name, _, kind in pairs)
+
+
+def functions_of(file):
+    """The functions of a file, in any layout: the brace of the body may stand on the line of the signature."""
+    return functions_in(read(file), file)
+
+
+@cache
+def functions_in(text, file):
+    found, module = [], module_of(file)
+    for head in HEAD.finditer(text):
+        after = matching(text, head.end() - 1) + 1
+        said = {"requires": [], "ensures": [], "ghost": []}
+        here = TO_CLAUSES.match(text, after)
+        at = here.end() if here else after
+        while clause := CLAUSE.match(text, at):
+            closed = matching(text, clause.end() - 1)
+            said[clause[1]].append(text[clause.end():closed].strip())
+            at = closed + 1
+        opened = text.find("{", at)
+        body = text[opened:matching(text, opened)] if opened >= 0 and not text[at:opened].strip() else ""
+        found.append(
+            Function(
+                path=f"{module}::{head['name']}",
+                file=file,
+                public=bool(head["mark"]) and not head["within"],
+                parameters=parameters_of(text[head.end():after - 1]),
+                answers=bool(here) and "->" in here[0],
+                requires=tuple(said["requires"]),
+                ensures=tuple(said["ensures"]),
+                body=body,
+            )
+        )
+    return found
+
+
+def full_names(called, function, brought):
+    """What a path in a function's body may mean, the nearest first."""
+    first, _, rest = called.partition("::")
+    if first == "crate":
+        return [f"{function.crate}::{rest}"]
+    if first == "super":
+        return [f"{function.module.rpartition('::')[0]}::{rest}"]
+    if first == "self":
+        return [f"{function.module}::{rest}"]
+    if first in brought:
+        called = "::".join(filter(None, [brought[first], rest]))
+    return [f"{function.module}::{called}", called.replace("crate::", f"{function.crate}::", 1)]
+
+
+def brought_by_use(file):
+    """The names that the `use` lines of a .rt file bring, each with its path."""
+    return {alias or path.rpartition("::")[2]: path for path, alias in RT_USE.findall(read(file))}
+
+
+def calls_of(function, known):
+    """The functions among `known` that a function's body calls."""
+    brought = brought_by_use(function.file)
+    found = set()
+    for called in set(CALL.findall(function.body)):
+        found.update(name for name in full_names(called, function, brought) if name in known)
+    return found
+
+
+# -- Clauses
+
+
+def result_binder(clause):
+    """The name that an `ensures` gives the result: the last that its λ binds; None where it has no λ or throws the result away."""
+    binders = re.match(r"λ\s*(.*?)\s*\.\s", clause + " ", re.S)
+    if not binders:
+        return None
+    name = re.sub(r"[({]\s*([^\s:]+)\s*:[^)}]*[)}]", r"\1", binders[1]).split()[-1]
+    return None if name == "_" else name
+
+
+def mentions(clause, name):
+    """Whether a clause has the name as a word of its own, after what its λ binds."""
+    body = re.sub(r"^λ\s*.*?\s*\.\s", "", clause, count=1, flags=re.S)
+    return re.search(rf"(?<![^\s(){{}}\[\]⌜⌝;,«]){re.escape(name)}(?![^\s(){{}}\[\]⌜⌝;,»])", body) is not None
+
+
+def bare(text):
+    """One spelling for a term: white space folded, brackets around the whole of it gone."""
+    text = spaced(text)
+    while len(text) > 1 and text[0] in "(⌜" and matching(text, 0) == len(text) - 1:
+        text = text[1:-1].strip()
+    return re.sub(r"\s*([(){}\[\]⌜⌝])\s*", r"\1", text)
+
+
+def groups(text):
+    """The text itself and what stands between each pair of brackets, with the brackets within it left whole."""
+    yield text
+    for i, c in enumerate(text):
+        if c in OPEN:
+            yield text[i + 1:matching(text, i)]
+
+
+def outermost(text, pattern):
+    """The text cut where the pattern matches outside all brackets."""
+    parts, start, i = [], 0, 0
+    while i < len(text):
+        if text[i] in OPEN:
+            i = matching(text, i) + 1
+        elif cut := pattern.match(text, i):
+            parts.append(text[start:i])
+            start = i = cut.end()
+        else:
+            i += 1
+    return [*parts, text[start:]]
+
+
+@cache
+def equations(clause):
+    """The pairs of sides of the equations in a clause, also within brackets and products."""
+    parts = (part for group in groups(clause) if "≡" in group for part in outermost(group, BETWEEN))
+    sides = (outermost(part, EQUALS) for part in parts)
+    return [(bare(pair[0]), bare(pair[1])) for pair in sides if len(pair) == 2]
+
+
+# -- .antt text
+
+
+@dataclass(frozen=True)
+class Import:
+    line: int
+    module: str
+    item: str  # "*" for a glob, "" for the module itself
+    name: str  # what the file calls it
+
+
+def line_at(text, place):
+    return text.count("\n", 0, place) + 1
+
+
+def imports_of(file):
+    """Every name that the `use` lines of .antt text bring, and the `ghost use` lines of an .rt file."""
+    return imports_in(read(file), file.suffix == ".rt")
+
+
+@cache
+def imports_in(text, ghost_alone):
+    brought = []
+    for found in IMPORT.finditer(text):
+        if ghost_alone and "ghost" not in found[0].split("use")[0]:
+            continue
+        line, path = line_at(text, found.start("path")), found["path"].removeprefix("package.")
+        if found["items"] is None:
+            module, _, last = path.rpartition(".")
+            is_glob = last == "*"
+            brought.append(Import(line, module if is_glob else path, "*" if is_glob else "", found["alias"] or last))
+            continue
+        for item in filter(None, map(str.strip, re.split(r"[,\n]", found["items"]))):
+            written, _, alias = item.partition(" as ")
+            within, _, last = written.strip().rpartition(".")
+            brought.append(Import(line, ".".join(filter(None, [path.rstrip("."), within])), last, alias.strip() or last))
+    return brought
+
+
+@cache
+def declared_in(text):
+    """What .antt text declares for others: by a signature at the left edge or with `pub`, as a record or as a data type."""
+    return {signed or made for signed, made in DECLARED.findall(text)}
+
+
+@cache
+def bound_in(text):
+    """Each name that .antt text gives a meaning of its own, with its line: by a signature, a `let`, a binder, a λ, on the left of an
+    equation, or as a module of its own."""
+    found = {}
+    for form in BINDING:
+        for match in form.finditer(text):
+            for name in match[1].replace("(", " ").replace(")", " ").split():
+                found.setdefault(name, line_at(text, match.end(1)))
+    return found
+
+
+@cache
+def assumed_in(text):
+    """The words by which .antt text assumes something, each with its line."""
+    return [(found[0], line_at(text, found.start())) for found in ASSUMING.finditer(text)]
