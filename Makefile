@@ -15,9 +15,12 @@ LUFFASUM ?= target/bin/luffasum
 .NOTPARALLEL:
 all: $(LUFFA_ARCHIVE) $(LUFFA_LIB)/libluffa.so $(LUFFASUM)
 
-# rt knows by itself what has to be proved again; the sources say when to ask it.
+# rt knows by itself what has to be proved again; the sources say when to ask it. rt check proves
+# crates that don't need each other side by side and builds the program too; rt staticlib would take
+# them one after the other, and here finds them proved.
 SOURCES := crates.txt $(shell find crates -name '*.rt')
 target/staticlib/libluffa.a: $(SOURCES)
+	rt check luffa luffasum
 	rt staticlib luffa
 target/bin/luffasum: $(SOURCES)
 	rt check luffasum
