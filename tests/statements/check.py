@@ -7,6 +7,7 @@ import re
 import sys
 from pathlib import Path
 
+sys.dont_write_bytecode = True
 import source
 from source import spaced
 
@@ -222,6 +223,9 @@ class Checker:
                 self.say(f"{at} is public and has no ensures")
             for clause in f.ensures:
                 self.hold_clause(at, clause)
+            for clause in f.ensures + f.requires:
+                for name in HOME_OF.keys() & source.bound_in(clause, is_clause=True).keys():
+                    self.say(f"{at} binds {name} in its contract, which hides {HOME_OF[name]}.{name}")
             if f.public and f.ensures:
                 self.hold_determined(at, f)
             for name, _ in f.parameters:

@@ -1,6 +1,6 @@
 """Reads the text of crates/: the functions of .rt files with their clauses and calls, and what .antt text imports and declares.
 
-It knows the layout of the sources and no rule: check.py holds them to the rules. What is costly is remembered by the text it was read from.
+It knows the layout of the sources and no rule, and remembers what it found in a text: check.py holds it to the rules.
 """
 import re
 from dataclasses import dataclass, field
@@ -23,13 +23,19 @@ IMPLICIT = r"(?:\s+\{[^}\n]*\})*"
 DECLARED = re.compile(
     rf"^(?:{MARKS}|[ \t]+pub\s+)([^\s:(){{}}]+){IMPLICIT}\s*:(?=\s)|^(?:pub\s+)?(?:record|data)\s+([^\s:(){{}}]+)", re.M
 )
-BINDING = [
-    re.compile(form, re.M)
+# How a term binds names, and how a line of a file does.
+IN_TERMS = [
+    re.compile(form)
     for form in (
-        rf"^[ \t]*{MARKS}([^\s:(){{}}]+){IMPLICIT}\s+:\s",
         r"\blet\s+([^\s:=]+)\s*[:=]",
         r"[({]\s*((?:[^\s(){}:=]+\s+)+):\s",
         r"λ\s*((?:[^\s.λ(){}]+\s+)*[^\s.λ(){}]+)\s*\.\s",
+    )
+]
+ON_LINES = [
+    re.compile(form, re.M)
+    for form in (
+        rf"^[ \t]*{MARKS}([^\s:(){{}}]+){IMPLICIT}\s+:\s",
         r"^([^\s:=][^:=\n]*?)\s=(?:\s|$)",
         r"^[ \t]*(?:pub\s+)?mod\s+(\S+)",
     )
@@ -267,11 +273,11 @@ def declared_in(text):
 
 
 @cache
-def bound_in(text):
-    """Each name that .antt text gives a meaning of its own, with its line: by a signature, a `let`, a binder, a λ, on the left of an
-    equation, or as a module of its own."""
+def bound_in(text, is_clause=False):
+    """Each name that .antt text gives a meaning of its own, with its line: by a `let`, a binder or a λ, and in a file by a signature, on the
+    left of an equation, or as a module of its own."""
     found = {}
-    for form in BINDING:
+    for form in IN_TERMS if is_clause else IN_TERMS + ON_LINES:
         for match in form.finditer(text):
             for name in match[1].replace("(", " ").replace(")", " ").split():
                 found.setdefault(name, line_at(text, match.end(1)))
