@@ -93,7 +93,8 @@ class Checker:
         self.definitions = sorted((root / "crates").glob("*/specs/**/*.antt"))
         self.proofs = sorted((root / "crates").glob("*/proofs/**/*.antt"))
         self.edits = sorted((root / "crates").glob("*/must-fail/*.edit"))
-        self.functions = {f.path: f for file in self.sources for f in source.functions_of(file)}
+        self.texts = {file: source.read(file) for file in [*self.sources, *self.definitions, *self.proofs]}
+        self.functions = {f.path: f for file in self.sources for f in source.functions_in(self.texts[file], file)}
         self.names, self.named_edits = 0, set()
 
     def say(self, complaint):
@@ -101,7 +102,10 @@ class Checker:
             self.complaints.append(complaint)
 
     def shown(self, file):
-        return file.relative_to(self.root)
+        return str(file).removeprefix(f"{self.root}/")
+
+    def crate_of(self, file):
+        return self.shown(file).split("/")[1]
 
     def public(self):
         return [f for f in self.functions.values() if f.public]
@@ -131,15 +135,15 @@ class Checker:
         """Each of the names is declared in one of the files, and each file is there and declares one of them."""
         paths = {file: self.located(file) for file in files}
         for file in files:
-            if not paths[file].is_file():
+            if paths[file] not in self.texts:
                 self.say(f"the page names {file}, and it isn't there")
                 del paths[file]
         for name in names:
             self.names += 1
-            if paths and not any(name in source.declared_in(source.read(path)) for path in paths.values()):
+            if paths and not any(name in source.declared_in(self.texts[path]) for path in paths.values()):
                 self.say(f"{name} isn't declared in {', '.join(files)}")
         for file, path in paths.items():
-            if not any(name in source.declared_in(source.read(path)) for name in names):
+            if not any(name in source.declared_in(self.texts[path]) for name in names):
                 self.say(f"{file} declares none of {', '.join(names)}")
 
     def theorems(self):
@@ -162,11 +166,11 @@ class Checker:
 
     def hypotheses(self):
         """The theorems whose hypotheses are said to be met are declared in a file that the page names."""
-        files = [path for path in map(self.located, set(re.findall(FILE, self.page))) if path.is_file()]
+        files = [path for path in map(self.located, set(re.findall(FILE, self.page))) if path in self.texts]
         for table in self.tables:
             for row in table.rows if {"Theorem", "Met by"} <= set(table.headings) else []:
                 for name in ticked(row["Theorem"]):
-                    if not any(name in source.declared_in(source.read(path)) for path in files):
+                    if not any(name in source.declared_in(self.texts[path]) for path in files):
                         self.say(f"{name} isn't declared in any file of the page")
 
     def listed_functions(self):
@@ -277,7 +281,7 @@ class Checker:
             self.say(f"the page lists {name} as asking something of its callers, and it isn't there")
         elif not self.functions[name].requires:
             self.say(f"the page lists {name} as asking something of its callers, and it has no requires")
-        calling = {f.path for f in self.functions.values() if name in source.calls_of(f, {name})}
+        calling = {f.path for f in self.functions.values() if name in f.calls}
         for caller in sorted(callers - calling):
             self.say(f"the page names {caller} as a caller of {name}, and it doesn't call it")
         for caller in sorted(calling - callers):
@@ -287,17 +291,18 @@ class Checker:
 
     def laws(self):
         """The proofs of the crates whose theorems the page names; what a proof of a function calls its helpers is its own affair."""
-        crates = {self.located(name).relative_to(self.root).parts[1] for name in re.findall(FILE, self.page)}
-        return [file for file in self.proofs if self.shown(file).parts[1] in crates]
+        crates = {self.crate_of(self.located(name)) for name in set(re.findall(FILE, self.page))}
+        return [file for file in self.proofs if self.crate_of(file) in crates]
 
     def symbols(self):
         """In contracts, definitions and laws, a symbol of the libraries means what it means there."""
-        for file in [*self.sources, *self.definitions, *self.laws()]:
+        laws = self.laws()
+        for file in [*self.sources, *self.definitions, *laws]:
             at = self.shown(file)
-            for i in source.imports_of(file):
+            for i in source.imports_in(self.texts[file], ghost_alone=file.suffix == ".rt"):
                 self.hold_import(f"{at}:{i.line}", i)
-        for file in [*self.definitions, *self.laws()]:
-            bound = source.bound_in(source.read(file))
+        for file in [*self.definitions, *laws]:
+            bound = source.bound_in(self.texts[file])
             for name in (bound.keys() & HOME_OF.keys()) - CONSTRUCTORS:
                 self.say(f"{self.shown(file)}:{bound[name]}: {name} is given another meaning than {HOME_OF[name]}'s")
             for name in bound.keys() & LIBRARIES:
@@ -313,10 +318,10 @@ class Checker:
 
     def nothing_assumed(self):
         for file in [*self.definitions, *self.proofs]:
-            for word, line in source.assumed_in(source.read(file)):
+            for word, line in source.assumed_in(self.texts[file]):
                 self.say(f"{self.shown(file)}:{line}: {word}: something is assumed")
         for file in self.sources:
-            if re.search(r'\bextern\s*(?:"[^"]*")?\s*\{', source.read(file)):
+            if re.search(r'\bextern\s*(?:"[^"]*")?\s*\{', self.texts[file]):
                 self.say(f'{self.shown(file)}: an extern "C" block: its contracts are assumed')
         table = next((t for t in self.tables if t.section == ASSUMED), None)
         listed = {name for row in table.rows for name in re.findall(r"\w+", row["Crate"])} if table else set()

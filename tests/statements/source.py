@@ -3,7 +3,7 @@
 It knows the layout of the sources and no rule, and remembers what it found in a text: check.py holds it to the rules.
 """
 import re
-from dataclasses import dataclass, field
+from dataclasses import dataclass
 from functools import cache
 from pathlib import Path
 
@@ -83,15 +83,7 @@ class Function:
     answers: bool  # it returns something
     requires: tuple
     ensures: tuple
-    body: str = field(repr=False)
-
-    @property
-    def crate(self):
-        return self.path.split("::")[0]
-
-    @property
-    def module(self):
-        return self.path.rpartition("::")[0]
+    calls: frozenset  # every whole path that a call in its body may mean
 
 
 def module_of(file):
@@ -109,14 +101,10 @@ def parameters_of(text):
     return tuple((re.sub(r"^\s*mut\s+", "", name).strip(), spaced(kind)) for name, _, kind in pairs)
 
 
-def functions_of(file):
-    """The functions of a file, in any layout: the brace of the body may stand on the line of the signature."""
-    return functions_in(read(file), file)
-
-
 @cache
 def functions_in(text, file):
-    found, module = [], module_of(file)
+    """The functions of a file, in any layout: the brace of the body may stand on the line of the signature."""
+    found, module, brought = [], module_of(file), brought_in(text)
     for head in HEAD.finditer(text):
         after = matching(text, head.end() - 1) + 1
         said = {"requires": [], "ensures": [], "ghost": []}
@@ -137,38 +125,30 @@ def functions_in(text, file):
                 answers=bool(here) and "->" in here[0],
                 requires=tuple(said["requires"]),
                 ensures=tuple(said["ensures"]),
-                body=body,
+                calls=frozenset(name for called in CALL.findall(body) for name in full_names(called, module, brought)),
             )
         )
     return found
 
 
-def full_names(called, function, brought):
-    """What a path in a function's body may mean, the nearest first."""
+def brought_in(text):
+    """The names that the `use` lines of .rt text bring, each with its path."""
+    return {alias or path.rpartition("::")[2]: path for path, alias in RT_USE.findall(text)}
+
+
+def full_names(called, module, brought):
+    """What a path in a function's body may mean in its module, the nearest first."""
+    crate = module.split("::")[0]
     first, _, rest = called.partition("::")
     if first == "crate":
-        return [f"{function.crate}::{rest}"]
+        return [f"{crate}::{rest}"]
     if first == "super":
-        return [f"{function.module.rpartition('::')[0]}::{rest}"]
+        return [f"{module.rpartition('::')[0]}::{rest}"]
     if first == "self":
-        return [f"{function.module}::{rest}"]
+        return [f"{module}::{rest}"]
     if first in brought:
         called = "::".join(filter(None, [brought[first], rest]))
-    return [f"{function.module}::{called}", called.replace("crate::", f"{function.crate}::", 1)]
-
-
-def brought_by_use(file):
-    """The names that the `use` lines of a .rt file bring, each with its path."""
-    return {alias or path.rpartition("::")[2]: path for path, alias in RT_USE.findall(read(file))}
-
-
-def calls_of(function, known):
-    """The functions among `known` that a function's body calls."""
-    brought = brought_by_use(function.file)
-    found = set()
-    for called in set(CALL.findall(function.body)):
-        found.update(name for name in full_names(called, function, brought) if name in known)
-    return found
+    return [f"{module}::{called}", called.replace("crate::", f"{crate}::", 1)]
 
 
 # -- Clauses
@@ -242,13 +222,9 @@ def line_at(text, place):
     return text.count("\n", 0, place) + 1
 
 
-def imports_of(file):
-    """Every name that the `use` lines of .antt text bring, and the `ghost use` lines of an .rt file."""
-    return imports_in(read(file), file.suffix == ".rt")
-
-
 @cache
 def imports_in(text, ghost_alone):
+    """Every name that the `use` lines of .antt text bring; of .rt text, the `ghost use` lines alone."""
     brought = []
     for found in IMPORT.finditer(text):
         if ghost_alone and "ghost" not in found[0].split("use")[0]:
