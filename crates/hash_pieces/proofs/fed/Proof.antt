@@ -9,6 +9,7 @@ use borrow.Author.Needs.{needs}
 use lib.ListN.{length, take, drop, replicate, length-drop}
 use lib.Seq.{length-take-le}
 use Rattle.definition.specs.Padding.{rest}
+use Rattle.bytes.specs.Total.{writeAt}
 use Rattle.definition.proofs.Chain.{counted-state}
 use Rattle.bytes.proofs.Parts.{part-rest}
 use Rattle.bytes.proofs.Total.{write-at}
@@ -62,8 +63,10 @@ returns-2 c =
     let piece = now (start .args .piece) in
     let from = (32 - k .count % 32) % 32 in
     let t = drop from piece in
+    -- the rest of the piece stands over zeros
+    let z : c .pasted2 .result ≡ writeAt 0 _ (replicate 32 0) = c .pasted2 .ensures in
     rw (
-      c .pasted2 .ensures,
+      z,
       a .absorb .ensures,
       w .width .ensures,
       part-rest from piece,
