@@ -1,4 +1,4 @@
--- Reading and writing where there is room, and writing where there is none.
+-- Writing where there is room, and where there is none.
 -- Assumes nothing.
 use mathlib.Core.Path.{_≡_, ap, _∙_}
 use mathlib.Core.List.{List, [], _++_}
@@ -7,15 +7,9 @@ use native.Mathlib.Decide.{decLe}
 use native.Mathlib.Omega.{arith}
 use borrow.Author.Tests.{le-leb, lt-leb}
 use lib.ListN.{length, length-append}
-use Rattle.definition.specs.Block.{blockOf}
 use Rattle.definition.specs.Buffer.{overwriteAt, overwrite}
 use Rattle.definition.proofs.Buffer.{overwriteAt-more, overwrite-more, overwriteAt-none, length-overwrite, length-overwriteAt}
-use Rattle.bytes.specs.Total.{blockWhen, firstBlock, writeWhen, writeAt}
-
--- 32 bytes are read as a block
-pub block-of : (x : List ℕ) → 32 ≤ length x → firstBlock x ≡ blockOf x
-unfolding firstBlock blockWhen
-block-of x h = rw (le-leb 32 (length x) h)
+use Rattle.bytes.specs.Total.{writeWhen, writeAt}
 
 -- where there is room
 pub write-at : (i : ℕ) (p l : List ℕ) → i + length p ≤ length l → writeAt i p l ≡ overwriteAt i p l

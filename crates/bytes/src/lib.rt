@@ -21,8 +21,8 @@ fn word_at(t: &[u8], i: usize) -> u32
     word(t[i], t[i + 1], t[i + 2], t[i + 3])
 }
 
-// The first 32 bytes of a slice as a block.
-fn full_block(t: &[u8]) -> Block
+// The first 32 bytes of a slice as a block, where there are as many: what the loop over a message's blocks calls.
+pub fn full_block(t: &[u8]) -> Block
     requires { ⌜ 32 ≤ length (now t) ⌝ }
     ensures { λ r. ⌜ r ≡ blockOf (now (t .entry)) ⌝ }
 {

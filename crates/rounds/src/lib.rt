@@ -104,7 +104,7 @@ pub fn absorb(w: Width, c: Counted, s: &[u8]) -> Counted
     let mut t = s;
     let mut d = c;
     while 32 <= t.len() {
-        let m = bytes::block(t);
+        let m = bytes::full_block(t);
         d = counted_round(w, d, m);
         t = &t[32..];
     }

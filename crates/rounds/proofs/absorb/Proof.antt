@@ -9,7 +9,6 @@ use Rattle.definition.specs.Padding.{blocks}
 use Rattle.definition.specs.Counted.{countedChain}
 use Rattle.definition.proofs.Padding.{blocks-none, blocks-cons}
 use Rattle.bytes.proofs.Parts.{part-rest}
-use Rattle.bytes.proofs.Total.{block-of}
 use Rattle.rounds.proofs.absorb.Statement.{statement}
 use Rattle.rounds.proofs.absorb.Tie as tie
 
@@ -33,7 +32,7 @@ loop-again c =
     let l = c .before .before .before .before .loop in
     let t = now (l .t) in
     let h : 32 ≤ length t = omega arith in
-    rw (part-rest 32 t, c .before .counted-round .ensures, c .before .before .block .ensures, block-of t h)
+    rw (part-rest 32 t, c .before .counted-round .ensures, c .before .before .full-block .ensures)
     (ap (countedChain _ (l .d)) (sym (blocks-cons t h)) ∙ l .inv)
 
 returns : tie.Need-returns Inv-loop μ-loop
@@ -51,7 +50,7 @@ absorb-spec =
     Inv-loop
     μ-loop
     loop-holds
-    (λ c κs. tt)
+    (λ c κs. omega arith)
     (λ c κs. tt)
     (λ c. omega arith)
     (λ c. omega arith)
