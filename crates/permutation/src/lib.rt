@@ -1,7 +1,6 @@
 // The permutation P: Q_j on each block of a state (source, 4.1 and 4.5). Four blocks are stepped side by side.
 ghost use mathlib.Core.Path.{_≡_};
-ghost use mathlib.Core.List.{List};
-ghost use Prim.Native.Nat.{_≤_, _<_};
+ghost use Prim.Native.Nat.{_<_};
 ghost use Rattle.definition.specs.Permutation.{tweak as tweakOf};
 ghost use Rattle.definition.specs.Round.{permuteFrom};
 ghost use Rattle.definition.specs.State.{blocksIn, stateOf};

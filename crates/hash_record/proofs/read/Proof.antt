@@ -8,7 +8,6 @@ use borrow.Author.Tests.{eq-eqb, ne-eqb, not-true, not-false}
 use lib.ListN.{take, drop}
 use Rattle.hash_definition.specs.declared.Kept.{Kept}
 use Rattle.hash_definition.specs.Record.{allZero}
-use Rattle.hash_record.specs.declared.Reading.{Reading}
 use Rattle.hash_record.specs.Reading.{framed, readWhen, reading}
 use Rattle.hash_record.proofs.read.Statement.{statement}
 use Rattle.hash_record.proofs.read.Tie as tie
