@@ -21,10 +21,8 @@ use Rattle.definition.specs.Constant.{constantsFrom, constants}
 use Rattle.definition.specs.Permutation.{subCrumbs, mixWords, addConstant, step, steps, tweak, permute}
 use Rattle.definition.specs.Injection.{inject}
 use Rattle.definition.specs.Round.{permuteFrom, round, chain}
-use Rattle.definition.specs.Padding.{blocks}
 use Rattle.definition.specs.Start.{blockCount, startingVariables, start}
 use Rattle.definition.specs.State.{five, stateOf}
-use Rattle.definition.specs.Luffa.{widthAt}
 use Rattle.definition.proofs.Bits.{bit-lt}
 use Rattle.definition.proofs.Cases.{both-left, both-right, everyBelow, at-below}
 use Rattle.definition.proofs.Chain.{length-inject}

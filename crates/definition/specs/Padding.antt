@@ -1,5 +1,5 @@
 -- Message padding, and a message as blocks: sections 3.1 and 2.2 of the source, for messages of whole bytes.
-use Prim.Native.Nat.{ℕ, zero, suc, _+_, _-_, _*_, _/_, _%_}
+use Prim.Native.Nat.{ℕ, zero, suc, _-_, _*_, _/_, _%_}
 use mathlib.Core.List.{List, [], _∷_, _++_}
 use lib.ListN.{length, drop, replicate}
 use Rattle.definition.specs.declared.Block.{Block}

@@ -8,7 +8,7 @@ use Rattle.definition.specs.declared.Block.{Block}
 use Rattle.hash_definition.specs.declared.Kept.{Kept}
 use Rattle.definition.specs.declared.Width.{Width}
 use Rattle.definition.specs.Word.{bytesOfAll}
-use Rattle.definition.specs.Block.{wordsOf, wordsOfAll, wordAt, blockOf}
+use Rattle.definition.specs.Block.{wordsOfAll, wordAt, blockOf}
 use Rattle.definition.specs.Round.{chain}
 use Rattle.definition.specs.Padding.{closing, padded, blocks, rest}
 use Rattle.definition.specs.Start.{blockCount, start}

@@ -10,14 +10,13 @@ use native.Mathlib.Omega.{arith}
 use lib.ListN.{length, take, drop, length-append, length-set}
 use lib.Seq.{length-take-le, take-take}
 use Rattle.definition.specs.Luffa.{luffa}
-use Rattle.definition.specs.Buffer.{overwriteAt, overwrite}
+use Rattle.definition.specs.Buffer.{overwriteAt, overwrite, joined}
 use Rattle.definition.specs.Refusal.{STALE, firstOf}
 use Rattle.sheet_definition.specs.Sheet.{q, checkRounds}
 use Rattle.sheet_definition.specs.Marks.{held, markAt, TrueMarks}
 use Rattle.sheet_definition.specs.SheetCalls.{SheetOutcome, refusedWith, acceptedWith, buildOutcome}
 use Rattle.sheet_definition.specs.Run.{World, Call, call, claimOf, outOf, placeOf, countOf, refusalsOf, roundsOf, left, next, run, applied, records, cut}
 use Rattle.sheet_definition.specs.Run.Call.{Change, Append, Drop}
-use Rattle.definition.specs.Buffer.{joined}
 use Rattle.definition.proofs.Refusals.{First}
 use Rattle.sheet_definition.proofs.Writes.{take-overwriteAt, drop-overwriteAt}
 use Rattle.sheet_definition.proofs.Outcomes.{Untouched, Rounds, Fits}

@@ -6,13 +6,12 @@ use mathlib.Core.List.{List, []}
 use Prim.Native.Nat.{ℕ}
 use lib.ListN.{replicate}
 use Rattle.definition.specs.Luffa.{luffa}
-use Rattle.definition.specs.Buffer.{same}
+use Rattle.definition.specs.Buffer.{same, joined}
 use Rattle.definition.specs.Refusal.{STALE, firstOf}
 use Rattle.sheet_definition.specs.SheetCalls.{buildOutcome}
 use Rattle.sheet_definition.specs.Run.{World, Call, call, claimOf, placeOf, countOf, refusalsOf, left, next, applied, cut}
 use Rattle.sheet_definition.specs.Run.Call.{Append}
 use Rattle.sheet_definition.proofs.Computed.{everything}
-use Rattle.definition.specs.Buffer.{joined}
 use Rattle.sheet_definition.proofs.Writes.{same-refl}
 use Rattle.sheet_definition.proofs.Saves.{recordOf, marksOf, acceptedOf}
 use Rattle.sheet_definition.proofs.Answers.{accepted-is}

@@ -7,10 +7,9 @@ use native.Mathlib.Nat.{add-assoc}
 use native.Mathlib.Omega.{arith}
 use lib.ListN.{length, take, drop, set, length-append, length-drop, take-append-drop}
 use lib.Seq.{length-take-le, take-nil, take-at, drop-at, take-append-le, drop-append-le, take-append-add, drop-append-add, take-add}
-use Rattle.definition.specs.Buffer.{overwriteAt}
+use Rattle.definition.specs.Buffer.{overwriteAt, joined}
 use Rattle.sheet_definition.specs.Run.{cut}
 use Rattle.definition.proofs.Buffer.{length-overwriteAt}
-use Rattle.definition.specs.Buffer.{joined}
 
 -- each is of 40 bytes
 abbrev pub Forty : List (List ℕ) → Type 0

@@ -1,7 +1,7 @@
 -- Document 01's numbers of the sheet, one from the other.
 -- Assumes nothing.
 use mathlib.Core.Path.{_≡_}
-use Prim.Native.Nat.{ℕ, _+_, _-_, _*_}
+use Prim.Native.Nat.{ℕ, _+_, _*_}
 use native.Mathlib.Omega.{arith}
 use Rattle.sheet_definition.specs.Sheet.{q, r, N, roundsFrom, buildRounds, checkRounds}
 
