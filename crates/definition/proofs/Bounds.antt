@@ -1,12 +1,10 @@
 -- The words of a state stay words of 32 bits: after a step, a round and a chain of rounds.
 -- Assumes nothing.
-use mathlib.Core.Bool.{Bool, true, _&&_}
 use mathlib.Core.List.{List, [], _∷_}
 use Prim.Native.Nat.{ℕ, zero, suc, _+_, _-_, _*_, _/_, _%_, _^_, _<_, _≤_}
 use native.Mathlib.Nat.{mod-lt, lt-of-le-of-lt, mul-le-mul-right, pow-suc}
 use native.Mathlib.Omega.{arith}
 use lib.Bits.{bitXor, or-lt, xor-lt}
-use lib.Dec.{T, ltb, ltb→lt}
 use lib.ListN.{length, getD}
 use lib.Pow.{pow-pos, shr-le}
 use Rattle.definition.specs.declared.Block.{Block}
@@ -23,9 +21,9 @@ use Rattle.definition.specs.Injection.{inject}
 use Rattle.definition.specs.Round.{permuteFrom, round, chain}
 use Rattle.definition.specs.Start.{blockCount, startingVariables, start}
 use Rattle.definition.specs.State.{five, stateOf}
+use Rattle.definition.proofs.Every.{Every, every-at}
 use Rattle.definition.proofs.Bits.{bit-lt}
-use Rattle.definition.proofs.Cases.{both-left, both-right, everyBelow, at-below}
-use Rattle.definition.proofs.Chain.{length-inject}
+use Rattle.definition.proofs.Chain.{length-inject, count-le}
 use Rattle.definition.proofs.Computed.{everything}
 
 -- the eight words of a block are words of 32 bits
@@ -40,9 +38,8 @@ pub record Words (b : Block) : Type 0 where
   pub w7 : b .a7 < 2 ^ 32
 
 -- and so those of each block of a list
-pub data AllWords : List Block → Type 0 where
-  none : AllWords []
-  more : {b : Block} {bs : List Block} → Words b → AllWords bs → AllWords (b ∷ bs)
+abbrev pub AllWords : List Block → Type 0
+AllWords = Every Words
 
 -- both words of a pair of constants
 pub record PairWords (c : Pair) : Type 0 where
@@ -130,42 +127,18 @@ pub step-words : (c : Pair) (a : Block) → PairWords c → Words (step c a)
 unfolding step
 step-words c a k = add-words c (mixWords (subCrumbs a)) k (mixed-words (subCrumbs a) (sub-words a))
 
--- the words of each pair of a list
-abbrev pub AllPairs : List Pair → Type 0
-AllPairs [] = Unit
-AllPairs (c ∷ cs) = PairWords c × AllPairs cs
-
--- and as a test
-abbrev pairTest : Pair → Bool
-pairTest c = ltb (c .left) (2 ^ 32) && ltb (c .right) (2 ^ 32)
-
-abbrev pairsTest : List Pair → Bool
-pairsTest [] = true
-pairsTest (c ∷ cs) = pairTest c && pairsTest cs
-
-pair-words : (c : Pair) → T (pairTest c) → PairWords c
-pair-words c t =
-    let a : Bool = ltb (c .left) (2 ^ 32) in
-    let b : Bool = ltb (c .right) (2 ^ 32) in
-    record {
-      left-word = ltb→lt (c .left) (2 ^ 32) (both-left a b t);
-      right-word = ltb→lt (c .right) (2 ^ 32) (both-right a b t);
-    }
-
-pairs-words : (cs : List Pair) → T (pairsTest cs) → AllPairs cs
-pairs-words [] t = tt
-pairs-words (c ∷ cs) t =
-    (pair-words c (both-left (pairTest c) (pairsTest cs) t), pairs-words cs (both-right (pairTest c) (pairsTest cs) t))
-
 -- the constants of the five blocks are words
-pub constants-words : (j : ℕ) → j < 5 → AllPairs (constants j)
-constants-words j h = pairs-words (constants j) (at-below 5 (λ j. pairsTest (constants j)) computed j h)
-  where
-    computed : T (everyBelow 5 (λ j. pairsTest (constants j)))
-    computed = unfold everything in tt
+constants-words : (j : ℕ) → j < 5 → Every PairWords (constants j)
+unfolding everything
+constants-words zero h = omega arith
+constants-words (suc zero) h = omega arith
+constants-words (suc (suc zero)) h = omega arith
+constants-words (suc (suc (suc zero))) h = omega arith
+constants-words (suc (suc (suc (suc zero)))) h = omega arith
+constants-words (suc (suc (suc (suc (suc j))))) h = absurd (omega arith)
 
 -- one step at least gives words, from any block
-steps-words : (c : Pair) (cs : List Pair) (a : Block) → AllPairs (c ∷ cs) → Words (steps (c ∷ cs) a)
+steps-words : (c : Pair) (cs : List Pair) (a : Block) → Every PairWords (c ∷ cs) → Words (steps (c ∷ cs) a)
 unfolding steps
 steps-words c [] a k = step-words c a (k .0)
 steps-words c (d ∷ cs) a k = steps-words d cs (step c a) (k .1)
@@ -177,14 +150,8 @@ permute-words j b h = steps-words _ _ (tweak j b) (constants-words j h)
 
 permuted-words : (j : ℕ) (xs : List Block) → j + length xs ≤ 5 → AllWords (permuteFrom j xs)
 unfolding permuteFrom
-permuted-words j [] h = none
-permuted-words j (x ∷ xs) h = more (permute-words j x (omega arith)) (permuted-words (suc j) xs (omega arith))
-
-count-le : (w : Width) → blockCount w ≤ 5
-unfolding blockCount
-count-le W3 = omega arith
-count-le W4 = omega arith
-count-le W5 = omega arith
+permuted-words j [] h = tt
+permuted-words j (x ∷ xs) h = (permute-words j x (omega arith), permuted-words (suc j) xs (omega arith))
 
 -- a round gives words, from any blocks
 pub round-words : (w : Width) (h : List Block) (m : Block) → AllWords (round w h m)
@@ -198,41 +165,27 @@ chain-words w h [] k = k
 chain-words w h (m ∷ ms) k = chain-words w (round w h m) ms (round-words w h m)
 
 -- the starting variables are words
-abbrev Each : List Block → Type 0
-Each [] = Unit
-Each (b ∷ bs) = Words b × Each bs
-
-each-words : (bs : List Block) → Each bs → AllWords bs
-each-words [] e = none
-each-words (b ∷ bs) e = more (e .0) (each-words bs (e .1))
-
 pub start-words : (w : Width) → AllWords (start w)
 unfolding start startingVariables blockCount
-start-words W3 = each-words (start W3) (omega arith)
-start-words W4 = each-words (start W4) (omega arith)
-start-words W5 = each-words (start W5) (omega arith)
+start-words W3 = omega arith
+start-words W4 = omega arith
+start-words W5 = omega arith
 
 -- a state's blocks are words, those that stand for zero too
-at-words : {h : List Block} → AllWords h → (j : ℕ) → Words (getD h j zeroBlock)
-at-words none zero = omega arith
-at-words none (suc j) = omega arith
-at-words (more k r) zero = k
-at-words (more k r) (suc j) = at-words r j
-
-pub five-words : {h : List Block} → AllWords h → AllWords (five (stateOf h))
+pub five-words : (h : List Block) → AllWords h → AllWords (five (stateOf h))
 unfolding five stateOf
-five-words k = more (at-words k 0) (more (at-words k 1) (more (at-words k 2) (more (at-words k 3) (more (at-words k 4) none))))
+five-words h k = (at 0, (at 1, (at 2, (at 3, (at 4, tt)))))
+  where
+    at : (j : ℕ) → Words (getD h j zeroBlock)
+    at = every-at Words h zeroBlock (omega arith) k
 
 -- each word of a list of blocks
-pub word-in : {bs : List Block} → AllWords bs → (i : ℕ) → getD (wordsOfAll bs) i 0 < 2 ^ 32
+every-word : (bs : List Block) → AllWords bs → Every (λ n. n < 2 ^ 32) (wordsOfAll bs)
 unfolding wordsOfAll wordsOf
-word-in none i = pow-pos 32
-word-in (more k r) zero = k .w0
-word-in (more k r) (suc zero) = k .w1
-word-in (more k r) (suc (suc zero)) = k .w2
-word-in (more k r) (suc (suc (suc zero))) = k .w3
-word-in (more k r) (suc (suc (suc (suc zero)))) = k .w4
-word-in (more k r) (suc (suc (suc (suc (suc zero))))) = k .w5
-word-in (more k r) (suc (suc (suc (suc (suc (suc zero)))))) = k .w6
-word-in (more k r) (suc (suc (suc (suc (suc (suc (suc zero))))))) = k .w7
-word-in (more k r) (suc (suc (suc (suc (suc (suc (suc (suc i)))))))) = word-in r i
+every-word [] k = tt
+every-word (b ∷ bs) k =
+    let h : Words b = k .0 in
+    (h .w0, (h .w1, (h .w2, (h .w3, (h .w4, (h .w5, (h .w6, (h .w7, every-word bs (k .1)))))))))
+
+pub word-in : (bs : List Block) → AllWords bs → (i : ℕ) → getD (wordsOfAll bs) i 0 < 2 ^ 32
+word-in bs k = every-at (λ n. n < 2 ^ 32) (wordsOfAll bs) 0 (pow-pos 32) (every-word bs k)

@@ -8,14 +8,7 @@ use Prim.Native.Nat.{ℕ, zero, suc, _<_}
 use native.Mathlib.Nat.{not-suc-le-zero, le-of-suc-le-suc}
 use lib.Dec.{T, eqb, eqb→eq}
 use Rattle.definition.specs.Buffer.{same}
-
-pub both-left : (a b : Bool) → T (a && b) → T a
-both-left true b t = tt
-both-left false b t = t
-
-pub both-right : (a b : Bool) → T (a && b) → T b
-both-right true b t = t
-both-right false b t = absurd t
+use Rattle.definition.proofs.Conditions.{both-left, both-right}
 
 -- a list of n bits
 pub data Bits : ℕ → List ℕ → Type 0 where

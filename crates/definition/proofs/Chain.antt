@@ -3,42 +3,44 @@
 -- Assumes nothing.
 use mathlib.Core.Path.{_≡_, refl, sym, ap, _∙_}
 use mathlib.Core.List.{List, [], _∷_, _++_}
-use Prim.Native.Nat.{ℕ, suc, _+_, _%_, _^_, _<_}
+use Prim.Native.Nat.{ℕ, suc, _+_, _-_, _%_, _^_, _<_, _≤_}
 use native.Mathlib.Nat.{add-zero, mod-lt, mod-eq-of-lt, mod-add-mod}
 use native.Mathlib.Omega.{arith}
-use lib.ListN.{length}
+use lib.ListN.{length, replicate}
 use lib.Pow.{pow-pos}
+use lib.Seq.{take-at}
 use Rattle.definition.specs.declared.Block.{Block}
 use Rattle.definition.specs.declared.Counted.{Counted}
 use Rattle.definition.specs.declared.State.{State}
 use Rattle.definition.specs.declared.Width.{Width}
 use Rattle.definition.specs.declared.Width.the-variants.{W3, W4, W5}
+use Rattle.definition.specs.Block.{zeroBlock}
 use Rattle.definition.specs.Injection.{matrix, inject}
 use Rattle.definition.specs.Round.{permuteFrom, round, chain}
 use Rattle.definition.specs.Start.{blockCount, startingVariables, start}
 use Rattle.definition.specs.State.{five, blocksIn, stateOf}
 use Rattle.definition.specs.Counted.{countedRound, countedChain}
 
+-- the blocks past a list of at most five are zero
+five-filled : (h : List Block) → length h ≤ 5 → five (stateOf h) ≡ h ++ replicate (5 - length h) zeroBlock
+unfolding five stateOf
+five-filled [] l = refl
+five-filled (a ∷ []) l = refl
+five-filled (a ∷ b ∷ []) l = refl
+five-filled (a ∷ b ∷ c ∷ []) l = refl
+five-filled (a ∷ b ∷ c ∷ d ∷ []) l = refl
+five-filled (a ∷ b ∷ c ∷ d ∷ e ∷ []) l = refl
+five-filled (a ∷ b ∷ c ∷ d ∷ e ∷ f ∷ h) l = absurd (omega arith)
+
+pub count-le : (w : Width) → blockCount w ≤ 5
+unfolding blockCount
+count-le W3 = omega arith
+count-le W4 = omega arith
+count-le W5 = omega arith
+
 pub blocks-of-state : (w : Width) (h : List Block) → length h ≡ blockCount w → blocksIn w (stateOf h) ≡ h
-unfolding blockCount blocksIn five stateOf
-blocks-of-state W3 [] e = absurd (omega arith)
-blocks-of-state W3 (a ∷ []) e = absurd (omega arith)
-blocks-of-state W3 (a ∷ b ∷ []) e = absurd (omega arith)
-blocks-of-state W3 (a ∷ b ∷ c ∷ []) e = refl
-blocks-of-state W3 (a ∷ b ∷ c ∷ d ∷ h) e = absurd (omega arith)
-blocks-of-state W4 [] e = absurd (omega arith)
-blocks-of-state W4 (a ∷ []) e = absurd (omega arith)
-blocks-of-state W4 (a ∷ b ∷ []) e = absurd (omega arith)
-blocks-of-state W4 (a ∷ b ∷ c ∷ []) e = absurd (omega arith)
-blocks-of-state W4 (a ∷ b ∷ c ∷ d ∷ []) e = refl
-blocks-of-state W4 (a ∷ b ∷ c ∷ d ∷ f ∷ h) e = absurd (omega arith)
-blocks-of-state W5 [] e = absurd (omega arith)
-blocks-of-state W5 (a ∷ []) e = absurd (omega arith)
-blocks-of-state W5 (a ∷ b ∷ []) e = absurd (omega arith)
-blocks-of-state W5 (a ∷ b ∷ c ∷ []) e = absurd (omega arith)
-blocks-of-state W5 (a ∷ b ∷ c ∷ d ∷ []) e = absurd (omega arith)
-blocks-of-state W5 (a ∷ b ∷ c ∷ d ∷ f ∷ []) e = refl
-blocks-of-state W5 (a ∷ b ∷ c ∷ d ∷ f ∷ g ∷ h) e = absurd (omega arith)
+unfolding blocksIn
+blocks-of-state w h e = rw (five-filled h (omega (arith, count-le w))) (take-at h _ (blockCount w) e)
 
 pub length-blocksIn : (w : Width) (s : State) → length (blocksIn w s) ≡ blockCount w
 unfolding blockCount blocksIn five
@@ -131,12 +133,14 @@ unfolding chain
 length-chain w h [] e = e
 length-chain w h (m ∷ ms) e = length-chain w (round w h m) ms (length-round w h m)
 
+-- and a state holds them
+pub blocks-of-chain : (w : Width) (h ms : List Block) → length h ≡ blockCount w → blocksIn w (stateOf (chain w h ms)) ≡ chain w h ms
+blocks-of-chain w h ms e = blocks-of-state w (chain w h ms) (length-chain w h ms e)
+
 -- the blocks after a chain of rounds with their count
 pub counted-blocks : (w : Width) (c : Counted) (ms : List Block)
     → blocksIn w (countedChain w c ms .state) ≡ chain w (blocksIn w (c .state)) ms
-counted-blocks w c ms =
-    ap (blocksIn w) (counted-state w c ms)
-    ∙ blocks-of-state w (chain w (blocksIn w (c .state)) ms) (length-chain w (blocksIn w (c .state)) ms (length-blocksIn w (c .state)))
+counted-blocks w c ms = rw counted-state (blocks-of-chain w (blocksIn w (c .state)) ms (length-blocksIn w (c .state)))
 
 pub blocks-of-start : (w : Width) → blocksIn w (stateOf (start w)) ≡ start w
 blocks-of-start w = blocks-of-state w (start w) (length-start w)

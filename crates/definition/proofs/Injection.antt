@@ -17,7 +17,7 @@ use Rattle.definition.specs.Field.{double, times}
 use Rattle.definition.specs.Injection.{matrix, row, inject}
 use Rattle.definition.specs.Start.{blockCount}
 use Rattle.definition.specs.AppendixE.{Form, block, _⊞_, twice, power, sum, η, ξ, chained, forms, value, appendixE}
-use Rattle.definition.proofs.Cases.{both-left, both-right}
+use Rattle.definition.proofs.Conditions.{both-left, both-right}
 use Rattle.definition.proofs.Field.{times-zero, times-one, times-xor, times-twice}
 use Rattle.definition.proofs.Xor.{⊕-swap, ⊕-zero, zero-⊕, double-⊕}
 

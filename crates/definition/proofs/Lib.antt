@@ -1,4 +1,6 @@
 -- Laws of the definitions, which the crates above cite, and what the checker computes from the definitions as they stand.
+pub mod Conditions
+pub mod Every
 pub mod Cases
 pub mod Bits
 pub mod Word

@@ -1,42 +1,44 @@
 -- A string of bytes as blocks: block by block, over two strings, and padded.
 -- Assumes nothing.
-use mathlib.Core.Path.{_≡_, refl, sym, ap, ap₂, _∙_}
+use mathlib.Core.Path.{_≡_, refl, ap, _∙_}
 use mathlib.Core.List.{List, [], _∷_, _++_}
 use Prim.Native.Nat.{ℕ, zero, suc, _+_, _-_, _*_, _/_, _%_, _<_, _≤_}
+use native.Mathlib.Nat.{zero-add, suc-add}
 use native.Mathlib.Omega.{arith}
-use lib.ListN.{length, take, drop, length-append, length-drop, length-replicate}
-use lib.Seq.{getD-take, take-append-le, drop-append-le, drop-drop}
+use lib.ListN.{length, drop, length-append, length-drop, length-replicate, drop-of-length-le, List·getD-append}
+use lib.Seq.{drop-append-le, drop-drop}
 use Rattle.definition.specs.declared.Block.{Block}
 use Rattle.definition.specs.Block.{wordAt, blockOf}
 use Rattle.definition.specs.Padding.{padding, padded, blocksTo, blocks, rest, lastBlock}
 
--- a block is read from its first 32 bytes
-word-front : (x : List ℕ) (k : ℕ) → k < 8 → wordAt (take 32 x) k ≡ wordAt x k
-unfolding wordAt
-word-front x k h =
-    rw (
-      getD-take 32 x (4 * k) 0 (omega arith),
-      getD-take 32 x (4 * k + 1) 0 (omega arith),
-      getD-take 32 x (4 * k + 2) 0 (omega arith),
-      getD-take 32 x (4 * k + 3) 0 (omega arith),
-    )
+-- blocks that are given word by word, and have equal words
+abbrev pub blockBy : (ℕ → ℕ) → Block
+blockBy f = record { a0 = f 0; a1 = f 1; a2 = f 2; a3 = f 3; a4 = f 4; a5 = f 5; a6 = f 6; a7 = f 7 }
 
-pub block-front : (x : List ℕ) → blockOf (take 32 x) ≡ blockOf x
-unfolding blockOf
-block-front x =
+pub by-words : (f g : ℕ → ℕ) → ((k : ℕ) → k < 8 → f k ≡ g k) → blockBy f ≡ blockBy g
+by-words f g e =
     λ i. record {
-      a0 = word-front x 0 (omega arith) i;
-      a1 = word-front x 1 (omega arith) i;
-      a2 = word-front x 2 (omega arith) i;
-      a3 = word-front x 3 (omega arith) i;
-      a4 = word-front x 4 (omega arith) i;
-      a5 = word-front x 5 (omega arith) i;
-      a6 = word-front x 6 (omega arith) i;
-      a7 = word-front x 7 (omega arith) i;
+      a0 = e 0 (omega arith) i;
+      a1 = e 1 (omega arith) i;
+      a2 = e 2 (omega arith) i;
+      a3 = e 3 (omega arith) i;
+      a4 = e 4 (omega arith) i;
+      a5 = e 5 (omega arith) i;
+      a6 = e 6 (omega arith) i;
+      a7 = e 7 (omega arith) i;
     }
 
-pub block-append : (x y : List ℕ) → 32 ≤ length x → blockOf (x ++ y) ≡ blockOf x
-block-append x y h = sym (block-front (x ++ y)) ∙ ap blockOf (take-append-le 32 x y h) ∙ block-front x
+-- a block is read from its first 32 bytes
+block-append : (x y : List ℕ) → 32 ≤ length x → blockOf (x ++ y) ≡ blockOf x
+unfolding blockOf wordAt
+block-append x y h =
+    by-words (wordAt (x ++ y)) (wordAt x)
+    (λ k l. rw (
+      List·getD-append x y 0 (4 * k) (omega arith),
+      List·getD-append x y 0 (4 * k + 1) (omega arith),
+      List·getD-append x y 0 (4 * k + 2) (omega arith),
+      List·getD-append x y 0 (4 * k + 3) (omega arith),
+    ))
 
 -- the full blocks of a string
 pub blocks-none : (x : List ℕ) → length x < 32 → blocks x ≡ []
@@ -54,16 +56,53 @@ blocks-one x e =
     blocks-cons x (omega arith)
     ∙ ap (λ (bs : List Block). blockOf x ∷ bs) (blocks-none (drop 32 x) (omega (arith, length-drop 32 x)))
 
+-- the first n blocks and the next m
+blocks-add : (n m : ℕ) (x : List ℕ) → blocksTo (n + m) x ≡ blocksTo n x ++ blocksTo m (drop (n * 32) x)
+unfolding blocksTo
+blocks-add zero m x = rw zero-add
+blocks-add (suc n) m x =
+    let e : suc n * 32 ≡ 32 + n * 32 = omega arith in
+    rw (suc-add, e, ← drop-drop (n * 32) 32 x, blocks-add n m (drop 32 x))
+
+-- blocks are read from the first of two strings where it has them
+blocks-before : (n : ℕ) (x y : List ℕ) → n * 32 ≤ length x → blocksTo n (x ++ y) ≡ blocksTo n x
+unfolding blocksTo
+blocks-before zero x y h = refl
+blocks-before (suc n) x y h =
+    let l : 32 ≤ length x = omega arith in
+    rw (block-append x y l, drop-append-le 32 x y l, blocks-before n (drop 32 x) y (omega (arith, length-drop 32 x)))
+
+-- fewer than 32 bytes wait for a full block: those past the last multiple of 32
+pub length-rest : (x : List ℕ) → length (rest x) ≡ length x % 32
+unfolding rest
+length-rest x = omega (arith, length-drop (length x / 32 * 32) x)
+
+-- the blocks of two strings one after the other: those of the first, and those that its rest and the second make
+pub blocks-feed : (x y : List ℕ) → blocks (x ++ y) ≡ blocks x ++ blocks (rest x ++ y)
+unfolding blocks rest
+blocks-feed x y =
+    let n : ℕ = length x / 32 in
+    let h : n * 32 ≤ length x = omega arith in
+    let e : length (x ++ y) / 32 ≡ n + length (drop (n * 32) x ++ y) / 32 =
+    omega (arith, length-append x y, length-append (drop (n * 32) x) y, length-drop (n * 32) x) in
+    rw (e, blocks-add n _ (x ++ y), blocks-before n x y h, drop-append-le (n * 32) x y h)
+
+-- what waits after a second string is what its bytes leave behind those that waited
+pub rest-feed : (x y : List ℕ) → rest (rest x ++ y) ≡ rest (x ++ y)
+unfolding rest
+rest-feed x y =
+    let n : ℕ = length x / 32 * 32 in
+    let h : n ≤ length x = omega arith in
+    let e : length (x ++ y) / 32 * 32 ≡ n + length (drop n x ++ y) / 32 * 32 =
+    omega (arith, length-append x y, length-append (drop n x) y, length-drop n x) in
+    rw (e, ← drop-drop _ n (x ++ y), drop-append-le n x y h)
+
 -- n full blocks, and what comes after them
 pub blocks-append : (n : ℕ) (x y : List ℕ) → length x ≡ n * 32 → blocks (x ++ y) ≡ blocks x ++ blocks y
-blocks-append zero [] y e = ap (λ (l : List Block). l ++ blocks y) (sym (blocks-none [] (omega arith)))
-blocks-append zero (a ∷ x) y e = absurd (omega arith)
-blocks-append (suc n) x y e =
-    let h : 32 ≤ length x = omega arith in
-    blocks-cons (x ++ y) (omega (arith, length-append x y))
-    ∙ ap₂ (λ (b : Block) (bs : List Block). b ∷ bs) (block-append x y h)
-    (ap blocks (drop-append-le 32 x y h) ∙ blocks-append n (drop 32 x) y (omega (arith, length-drop 32 x)))
-    ∙ ap (λ (l : List Block). l ++ blocks y) (sym (blocks-cons x h))
+blocks-append n x y e = rw none at (blocks-feed x y)
+  where
+    none : rest x ≡ []
+    none = unfold rest in drop-of-length-le x {i = length x / 32 * 32} (omega arith)
 
 pub length-padding : (last n : ℕ) → length (padding last n) ≡ 32 - n % 32
 unfolding padding
@@ -73,46 +112,9 @@ pub rest-short : (x : List ℕ) → length x < 32 → rest x ≡ x
 unfolding rest
 rest-short x h = let e : length x / 32 * 32 ≡ 0 = omega arith in rw e
 
-pub short-last : (last : ℕ) (x : List ℕ) → length x < 32 → blockOf (x ++ padding last (length x)) ≡ lastBlock last x
-unfolding lastBlock
-short-last last x h = rw (rest-short x h)
-
-rest-drop : (x : List ℕ) → 32 ≤ length x → rest (drop 32 x) ≡ rest x
-unfolding rest
-rest-drop x h =
-    let e : 32 + length (drop 32 x) / 32 * 32 ≡ length x / 32 * 32 = omega (arith, length-drop 32 x) in
-    drop-drop (length (drop 32 x) / 32 * 32) 32 x ∙ ap (λ (n : ℕ). drop n x) e
-
-last-drop : (last : ℕ) (x : List ℕ) → 32 ≤ length x → lastBlock last (drop 32 x) ≡ lastBlock last x
-unfolding lastBlock padding
-last-drop last x h =
-    let e : length (drop 32 x) % 32 ≡ length x % 32 = omega (arith, length-drop 32 x) in
-    rw (e, rest-drop x h)
-
-same-padding : (last : ℕ) (x : List ℕ) → 32 ≤ length x → padding last (length x) ≡ padding last (length (drop 32 x))
-unfolding padding
-same-padding last x h =
-    let e : length x % 32 ≡ length (drop 32 x) % 32 = omega (arith, length-drop 32 x) in
-    rw e
-
 -- a padded string is its full blocks and one more
-padded-to : (n last : ℕ) (x : List ℕ) → length x / 32 ≡ n → blocks (padded last x) ≡ blocks x ++ (lastBlock last x ∷ [])
-unfolding padded
-padded-to zero last x e =
-    let h : length x < 32 = omega arith in
-    let l : length (x ++ padding last (length x)) ≡ 32 = omega (arith, length-append x (padding last (length x)), length-padding last (length x)) in
-    blocks-one (x ++ padding last (length x)) l
-    ∙ ap (λ (b : Block). b ∷ []) (short-last last x h)
-    ∙ ap (λ (l : List Block). l ++ (lastBlock last x ∷ [])) (sym (blocks-none x h))
-padded-to (suc n) last x e =
-    let h : 32 ≤ length x = omega arith in
-    let p = padding last (length x) in
-    blocks-cons (x ++ p) (omega (arith, length-append x p))
-    ∙ ap₂ (λ (b : Block) (bs : List Block). b ∷ bs) (block-append x p h)
-    (ap blocks (drop-append-le 32 x p h ∙ ap (λ (q : List ℕ). drop 32 x ++ q) (same-padding last x h))
-    ∙ padded-to n last (drop 32 x) (omega (arith, length-drop 32 x))
-    ∙ ap (λ (b : Block). blocks (drop 32 x) ++ (b ∷ [])) (last-drop last x h))
-    ∙ ap (λ (l : List Block). l ++ (lastBlock last x ∷ [])) (sym (blocks-cons x h))
-
 pub blocks-padded : (last : ℕ) (x : List ℕ) → blocks (padded last x) ≡ blocks x ++ (lastBlock last x ∷ [])
-blocks-padded last x = padded-to (length x / 32) last x refl
+unfolding padded lastBlock
+blocks-padded last x =
+    let p : List ℕ = padding last (length x) in
+    rw (blocks-feed x p, blocks-one (rest x ++ p) (omega (arith, length-append (rest x) p, length-rest x, length-padding last (length x))))

@@ -1,7 +1,7 @@
 -- What a well-formed record has: its length, and what it holds is well kept.
 -- Assumes nothing.
 use mathlib.Core.Path.{_≡_}
-use mathlib.Core.Bool.{true, _&&_}
+use mathlib.Core.Bool.{true}
 use mathlib.Core.List.{List}
 use Prim.Native.Nat.{ℕ, _≤_}
 use native.Mathlib.Omega.{arith}
@@ -10,7 +10,8 @@ use lib.Dec.{eqb}
 use lib.ListN.{length, take, drop, length-drop}
 use lib.Seq.{length-take-le}
 use Rattle.hash_definition.specs.Record.{recordLength, limit, allZero, wellKept, decode, wellFormed}
-use Rattle.hash_definition.proofs.Feeding.{both-true, well-kept}
+use Rattle.definition.proofs.Conditions.{both-true}
+use Rattle.hash_definition.proofs.Feeding.{well-kept}
 
 pub record Formed (b : List ℕ) : Type 0 where
   pub size : length b ≡ recordLength
@@ -26,10 +27,8 @@ pending-length b e = length-take-le 32 (drop 168 b) (omega (arith, length-drop 1
 pub formed : (b : List ℕ) → wellFormed b ≡ true → Formed b
 unfolding wellFormed
 formed b e =
-    let s : (eqb (length b) recordLength && allZero (take 7 (drop 1 b)) ≡ true) × (wellKept (decode b) ≡ true) =
-    both-true (eqb (length b) recordLength && allZero (take 7 (drop 1 b))) (wellKept (decode b)) e in
-    let t : (eqb (length b) recordLength ≡ true) × (allZero (take 7 (drop 1 b)) ≡ true) =
-    both-true (eqb (length b) recordLength) (allZero (take 7 (drop 1 b))) (s .0) in
+    let s = both-true _ (wellKept (decode b)) e in
+    let t = both-true (eqb (length b) recordLength) _ (s .0) in
     let n : length b ≡ recordLength = eqb-true (length b) recordLength (t .0) in
     record {
       size = n;

@@ -3,8 +3,8 @@ pub mod Refused
 pub mod Feeding
 pub mod Formed
 pub mod Records
-pub mod Demand2
-pub mod AnyRecord
 pub mod Working
 pub mod WorkingDemand2
+pub mod AnyRecord
+pub mod Demand2
 pub mod Determined

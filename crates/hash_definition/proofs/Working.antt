@@ -6,21 +6,22 @@ use mathlib.Core.Bool.{true, false}
 use mathlib.Core.List.{List}
 use Prim.Native.Nat.{ℕ, zero, suc, _^_, _<_, _≤_}
 use native.Mathlib.Omega.{arith}
+use lib.Dec.{leb}
 use lib.ListN.{length, getD}
-use borrow.Author.Tests.{eq-eqb, le-leb, lt-leb}
+use borrow.Author.Tests.{eq-eqb, le-leb, lt-leb, leb-true}
 use Rattle.hash_definition.specs.declared.Kept.{Kept}
 use Rattle.hash_definition.specs.declared.Lent.{Lent}
 use Rattle.definition.specs.State.{five}
 use Rattle.definition.specs.Refusal.{Refusal, RECORD, pick, firstOf, known, whenDone}
 use Rattle.definition.specs.Block.{wordsOfAll}
-use Rattle.hash_definition.specs.Record.{recordLength, encode, decode, wellKept, wellFormed, fed, finished}
+use Rattle.hash_definition.specs.Record.{recordLength, encode, decode, wellKept, wellFormed}
 use Rattle.hash_definition.specs.Calls.{Outcome, outcome, recordRefusal, startRefusals, feedRefusals, finishRefusals, startOutcome, feedOutcome, finishOutcome}
 use Rattle.hash_definition.specs.Lent.{lentOutcome, keptRefusal, lentStartRefusals, lentFeedRefusals, lentFinishRefusals, lentStartOutcome, lentFeedOutcome, lentFinishOutcome}
-use Rattle.definition.specs.Buffer.{overwrite}
-use Rattle.hash_definition.proofs.Refused.{refused}
+use Rattle.definition.proofs.Conditions.{both-true}
+use Rattle.definition.proofs.Bounds.{word-in}
+use Rattle.hash_definition.proofs.Feeding.{well-kept, Sound}
 use Rattle.hash_definition.proofs.Formed.{formed}
-use Rattle.hash_definition.proofs.Records.{length-encode, decode-encode, encode-decode}
-use Rattle.hash_definition.proofs.Demand2.{seven-zeros}
+use Rattle.hash_definition.proofs.Records.{length-encode, seven-zeros, decode-encode, encode-decode}
 
 -- a refused call's working state is as at entry; an accepted call's is what the call makes of it
 pub lent-refused : (rs : List Refusal) (done before : Kept) (k : ℕ) → firstOf rs ≡ suc k
@@ -56,7 +57,7 @@ module _ (k : Kept) (t : Typed k) where
   length-lent = length-encode k (t .pending)
 
   module _ (byte : k .code < 256) where
-    lent-decoded : decode (encode k) ≡ k
+    pub lent-decoded : decode (encode k) ≡ k
     lent-decoded = decode-encode k byte (t .words) (t .pending) (t .count)
 
     -- a working state is well formed when its bytes are
@@ -79,25 +80,31 @@ module _ (k : Kept) (t : Typed k) where
   unfolding startOutcome startRefusals lentStartOutcome lentStartRefusals lentOutcome firstOf pick
   lent-start code = rw (eq-eqb (length (encode k)) recordLength length-lent) (in-bytes _ _ _)
 
+-- a code that is known is one byte
+known-byte : (code : ℕ) → known code ≡ true → code < 256
+unfolding known
+known-byte code k = omega (arith, leb-true code 4 (both-true (leb 1 code) (leb code 4) k .1))
+
+-- a sound working state fits its bytes
+pub sound-typed : (k : Kept) → Sound k → Typed k
+sound-typed k s = record { words = word-in _ (s .words); pending = s .buffer; count = omega (arith, well-kept k (s .well) .count-le) }
+
+pub sound-byte : (k : Kept) → Sound k → k .code < 256
+sound-byte k s = known-byte (k .code) (well-kept k (s .well) .code-known)
+
 -- a code that is not known: the working state is not well formed
-pub unknown-formed : (k : Kept) → known (k .code) ≡ false → wellKept k ≡ false
+unknown-formed : (k : Kept) → known (k .code) ≡ false → wellKept k ≡ false
 unfolding wellKept
 unknown-formed k e = rw e
 
 -- so it is refused, and left as it is
 pub unknown-feed : (k : Kept) (piece : List ℕ) → known (k .code) ≡ false → lentFeedOutcome k piece ≡ record { number = RECORD; kept = k }
-unfolding lentFeedOutcome
-unknown-feed k piece e = sym (lent-refused (lentFeedRefusals k (length piece)) (fed k piece) k 2 first)
-  where
-    first : firstOf (lentFeedRefusals k (length piece)) ≡ RECORD
-    first = unfold lentFeedRefusals keptRefusal firstOf pick in rw (unknown-formed k e)
+unfolding lentFeedOutcome lentOutcome lentFeedRefusals keptRefusal firstOf pick whenDone
+unknown-feed k piece e = rw (unknown-formed k e)
 
 pub unknown-finish : (k : Kept) (out : List ℕ) → known (k .code) ≡ false → lentFinishOutcome k out ≡ record { number = RECORD; buffer = out }
-unfolding lentFinishOutcome
-unknown-finish k out e = sym (refused (lentFinishRefusals k (length out)) (overwrite (finished k) out) out 2 first)
-  where
-    first : firstOf (lentFinishRefusals k (length out)) ≡ RECORD
-    first = unfold lentFinishRefusals keptRefusal firstOf pick in rw (unknown-formed k e)
+unfolding lentFinishOutcome outcome lentFinishRefusals keptRefusal firstOf pick whenDone
+unknown-finish k out e = rw (unknown-formed k e)
 
 -- a code that is no byte is not known
 pub no-byte : (code : ℕ) → 256 ≤ code → known code ≡ false
@@ -108,9 +115,7 @@ no-byte code h = rw (le-leb 1 code (omega arith), lt-leb code 4 (omega arith))
 pub held-feed : (r piece : List ℕ) → ((i : ℕ) → getD r i 0 < 256) → wellFormed r ≡ true
     → feedOutcome r piece ≡ inBytes (lentFeedOutcome (decode r) piece)
 unfolding feedOutcome feedRefusals recordRefusal lentFeedOutcome lentFeedRefusals keptRefusal
-held-feed r piece h w =
-    let e : encode (decode r) ≡ r = encode-decode r h w in
-    rw (w, formed r w .holds) (ap (outcome _ _) (sym e) ∙ in-bytes _ _ _)
+held-feed r piece h w = rw (w, formed r w .holds) (ap (outcome _ _) (sym (encode-decode r h w)) ∙ in-bytes _ _ _)
 
 pub held-finish : (r out : List ℕ) → wellFormed r ≡ true → finishOutcome r out ≡ lentFinishOutcome (decode r) out
 unfolding finishOutcome finishRefusals recordRefusal lentFinishOutcome lentFinishRefusals keptRefusal

@@ -6,7 +6,8 @@ use Prim.Native.Nat.{ℕ, _+_, _*_, _<_}
 use lib.Dec.{T, eqb, eqb→eq}
 use lib.ListN.{getD}
 use Rattle.definition.proofs.Computed.{everything}
-use Rattle.definition.proofs.Cases.{both-left, both-right, everyBelow, at-below}
+use Rattle.definition.proofs.Conditions.{both-left, both-right}
+use Rattle.definition.proofs.Cases.{everyBelow, at-below}
 use Rattle.permutation.specs.Lanes.{constantAt, tableRow, table}
 
 -- the two words of block j at step i

@@ -13,6 +13,7 @@ use Rattle.definition.specs.Luffa.{bytesAt}
 use Rattle.definition.specs.Refusal.{Refusal, STALE, pick, firstOf, known, widthRefusal, outRefusal, whenDone}
 use Rattle.sheet_definition.specs.Sheet.{q, sheetRefusal, marksRefusal}
 use Rattle.sheet_definition.specs.SheetCalls.{SheetOutcome, refusedWith, sheetOutcome}
+use Rattle.definition.proofs.Conditions.{either-false}
 use Rattle.definition.proofs.Refusals.{First, first-given, given-first}
 
 -- what a refused call leaves
@@ -77,10 +78,6 @@ pub none-first : (k : ℕ) (b : Bool) (rs : List Refusal) → firstOf ((suc k, b
 unfolding firstOf pick
 none-first k true rs e = absurd (omega arith)
 none-first k false rs e = (refl, e)
-
-pub either-false : (a b : Bool) → (a || b) ≡ false → (a ≡ false) × (b ≡ false)
-either-false true b e = absurd (false≢true (sym e))
-either-false false b e = (refl, e)
 
 -- what the four refusals that each sheet call begins with leave
 pub record Fits (code sheet n marks out : ℕ) : Type 0 where

@@ -27,7 +27,8 @@ use Rattle.sheet_definition.specs.Run.Call.{Change, Append, Drop}
 use Rattle.definition.proofs.Buffer.{length-overwrite, length-overwriteAt}
 use Rattle.sheet_definition.proofs.Marks.{digest-from-mark, mark-written, marks-after-work}
 use Rattle.sheet_definition.proofs.Writes.{take-overwriteAt, drop-overwriteAt, marks-kept, Rewritten, rewritten, length-digest}
-use Rattle.sheet_definition.proofs.Outcomes.{by-number, none-first, either-false, fits}
+use Rattle.definition.proofs.Conditions.{either-false}
+use Rattle.sheet_definition.proofs.Outcomes.{by-number, none-first, fits}
 
 -- a true mark stays true where its words and the groups before it are as they were
 true-still : (code m k : ℕ) (sheet' sheet marks' marks : List ℕ) → take (160 * m) sheet' ≡ take (160 * m) sheet → k ≤ m
