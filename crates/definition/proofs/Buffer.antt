@@ -2,11 +2,11 @@
 -- Assumes nothing.
 use mathlib.Core.Path.{_≡_, refl, ap, _∙_}
 use mathlib.Core.List.{List, [], _++_, append-assoc, append-nil}
-use Prim.Native.Nat.{ℕ, _+_, _≤_}
-use native.Mathlib.Nat.{add-assoc, add-zero}
+use Prim.Native.Nat.{ℕ, _+_, _-_, _≤_}
+use native.Mathlib.Nat.{add-assoc, add-zero, zero-add}
 use native.Mathlib.Omega.{arith}
 use lib.ListN.{length, take, drop, length-append, length-drop, take-append-drop}
-use lib.Seq.{take-at, drop-drop, drop-append-add, length-take-le}
+use lib.Seq.{take-at, drop-at, take-take, take-append-le, drop-drop, drop-append-add, length-take-le}
 use Rattle.definition.specs.Buffer.{overwriteAt, overwrite}
 
 pub overwrite-none : (l : List ℕ) → overwrite [] l ≡ l
@@ -25,16 +25,6 @@ overwriteAt-more i j p v l h e =
     rw (← n, drop-append-add q x (length v), drop-drop, length-append p v, add-assoc) in
     rw (take-at q x j n, d, append-assoc (take i l) p v)
 
--- the next piece behind what was written in front
-pub overwrite-more : (p v l : List ℕ) (i : ℕ) → length p ≡ i → overwriteAt i v (overwrite p l) ≡ overwrite (p ++ v) l
-unfolding overwriteAt overwrite
-overwrite-more p v l i e =
-    rw (take-at p (drop (length p) l) i e, ← e, drop-append-add p (drop (length p) l) (length v), drop-drop, length-append p v)
-
-pub length-overwrite : (p l : List ℕ) → length p ≤ length l → length (overwrite p l) ≡ length l
-unfolding overwrite
-length-overwrite p l h = omega (arith, length-append p (drop (length p) l), length-drop (length p) l)
-
 pub length-overwriteAt : (i : ℕ) (p l : List ℕ) → i + length p ≤ length l → length (overwriteAt i p l) ≡ length l
 unfolding overwriteAt
 length-overwriteAt i p l h =
@@ -46,7 +36,35 @@ length-overwriteAt i p l h =
       length-drop (i + length p) l,
     )
 
+-- in front is from place 0 on
+pub overwrite-front : (p l : List ℕ) → overwriteAt 0 p l ≡ overwrite p l
+unfolding overwriteAt overwrite
+overwrite-front p l = rw zero-add
+
+-- the next piece behind what was written in front
+pub overwrite-more : (p v l : List ℕ) (i : ℕ) → length p ≡ i → overwriteAt i v (overwrite p l) ≡ overwrite (p ++ v) l
+overwrite-more p v l i e = rw (← overwrite-front p l, ← overwrite-front (p ++ v) l) (overwriteAt-more 0 i p v l (omega arith) (omega arith))
+
+pub length-overwrite : (p l : List ℕ) → length p ≤ length l → length (overwrite p l) ≡ length l
+length-overwrite p l h = rw (← overwrite-front p l) (length-overwriteAt 0 p l (omega arith))
+
 -- nothing written
 pub overwriteAt-none : (i : ℕ) (l : List ℕ) → i ≤ length l → overwriteAt i [] l ≡ l
 unfolding overwriteAt
 overwriteAt-none i l h = rw (add-zero i, append-nil (take i l)) (take-append-drop i l)
+
+-- before and after a piece written from place i on, the elements are as they were
+pub take-overwriteAt : (i j : ℕ) (p l : List ℕ) → j ≤ i → i ≤ length l → take j (overwriteAt i p l) ≡ take j l
+unfolding overwriteAt
+take-overwriteAt i j p l h n =
+    let k : j ≤ length (take i l) = omega (arith, length-take-le i l n) in
+    rw (append-assoc, take-append-le j (take i l) (p ++ drop (i + length p) l)) (take-take j i l h)
+
+pub drop-overwriteAt : (i j : ℕ) (p l : List ℕ) → i + length p ≤ j → i ≤ length l → drop j (overwriteAt i p l) ≡ drop j l
+unfolding overwriteAt
+drop-overwriteAt i j p l h n =
+    let y : List ℕ = take i l ++ p in
+    let s : ℕ = i + length p in
+    let m : length y ≡ s = omega (arith, length-append (take i l) p, length-take-le i l n) in
+    let e : s + (j - s) ≡ j = omega arith in
+    rw (← e, ← drop-drop (j - s) s (y ++ drop s l), ← drop-drop (j - s) s l, drop-at y (drop s l) s m)

@@ -248,17 +248,17 @@ module _ {A : Type 0} (number : A → List ℕ → ℕ) (next : A → List ℕ �
   -- from a form of working states in which a piece within the limit is accepted and fed
   module _ (form : Kept → A)
       (accepts : (k : Kept) (p : List ℕ) → Sound k → k .count + length p ≤ limit → (number (form k) p ≡ 0) × (next (form k) p ≡ form (fed k p)))
-      where
-    each : (k : Kept) (ps : List (List ℕ)) → Sound k → k .count + length (joined ps) ≤ limit
-        → feedEach (form k) ps ≡ record { numbers = replicate (length ps) 0; held = form (fed k (joined ps)) }
-    unfolding feedEach joined
-    each k [] s h = rw (fed-empty k (s .well) (s .buffer))
-    each k (p ∷ ps) s h =
-        let l : k .count + length p + length (joined ps) ≤ limit = omega (arith, length-append p (joined ps)) in
-        let a = accepts k p s (omega arith) in
-        rw (a .0, a .1, each (fed k p) ps (fed-sound k p s (omega arith)) (omega (arith, fed-count k p)), fed-fed k p (joined ps) (s .buffer))
+    where
+      each : (k : Kept) (ps : List (List ℕ)) → Sound k → k .count + length (joined ps) ≤ limit
+          → feedEach (form k) ps ≡ record { numbers = replicate (length ps) 0; held = form (fed k (joined ps)) }
+      unfolding feedEach joined
+      each k [] s h = rw (fed-empty k (s .well) (s .buffer))
+      each k (p ∷ ps) s h =
+          let l : k .count + length p + length (joined ps) ≤ limit = omega (arith, length-append p (joined ps)) in
+          let a = accepts k p s (omega arith) in
+          rw (a .0, a .1, each (fed k p) ps (fed-sound k p s (omega arith)) (omega (arith, fed-count k p)), fed-fed k p (joined ps) (s .buffer))
 
-    -- pieces of a message within the limit: each answer is 0, and what is held is what the message leads to
-    pub feed-each : (code : ℕ) (ps : List (List ℕ)) → known code ≡ true → length (joined ps) ≤ limit
-        → feedEach (form (started code)) ps ≡ record { numbers = replicate (length ps) 0; held = form (keptOf code (joined ps)) }
-    feed-each code ps e h = each (started code) ps (started-sound code e) (unfold started in omega arith)
+      -- pieces of a message within the limit: each answer is 0, and what is held is what the message leads to
+      pub feed-each : (code : ℕ) (ps : List (List ℕ)) → known code ≡ true → length (joined ps) ≤ limit
+          → feedEach (form (started code)) ps ≡ record { numbers = replicate (length ps) 0; held = form (keptOf code (joined ps)) }
+      feed-each code ps e h = each (started code) ps (started-sound code e) (unfold started in omega arith)

@@ -16,11 +16,11 @@ use Rattle.definition.specs.Buffer.{overwrite}
 use Rattle.sheet_definition.specs.Sheet.{q, buildRounds, buildRefusals}
 use Rattle.sheet_definition.specs.Marks.{Worked, markAt, stateFrom, markOf, worked, TrueMark}
 use Rattle.sheet_definition.specs.SheetCalls.{SheetOutcome, refusedWith, acceptedWith, buildOutcome}
-use Rattle.definition.proofs.Buffer.{length-overwrite}
+use Rattle.definition.proofs.Buffer.{length-overwrite, drop-overwriteAt, overwrite-front}
 use Rattle.definition.proofs.Chain.{length-start}
 use Rattle.sheet_definition.proofs.Sheet.{build-from-start}
 use Rattle.sheet_definition.proofs.Marks.{length-mark, state-of-mark, digest-from-mark, rounds-from-mark, mark-written, marks-after-work}
-use Rattle.sheet_definition.proofs.Writes.{marks-kept, drop-overwriteAt, overwrite-front, Rewritten, rewritten, length-digest}
+use Rattle.sheet_definition.proofs.Writes.{marks-kept, Rewritten, rewritten, length-digest}
 use Rattle.sheet_definition.proofs.Outcomes.{Rounds, by-number, rounds-of, Fits, fits}
 use Rattle.sheet_definition.proofs.Saves.{Written, Made}
 

@@ -18,7 +18,7 @@ use Rattle.sheet_definition.specs.SheetCalls.{SheetOutcome, refusedWith,
 use Rattle.sheet_definition.specs.Run.{World, Call, call, claimOf, outOf, placeOf, countOf, refusalsOf, roundsOf, left, next, run, applied, records, cut}
 use Rattle.sheet_definition.specs.Run.Call.{Change, Append, Drop}
 use Rattle.definition.proofs.Refusals.{First}
-use Rattle.sheet_definition.proofs.Writes.{take-overwriteAt, drop-overwriteAt}
+use Rattle.definition.proofs.Buffer.{take-overwriteAt, drop-overwriteAt}
 use Rattle.sheet_definition.proofs.Outcomes.{Untouched, Rounds, Fits}
 use Rattle.sheet_definition.proofs.Saves.{recordOf, sheetOf, acceptedOf, Valid, by-answer, Written, Made, save-made, Kept, save-kept, save-marks}
 use Rattle.sheet_definition.proofs.Build.{build-fits, build-made, BuildKept, build-kept}

@@ -1,8 +1,8 @@
 -- Laws of the sheet and of its calls: demand 3.
 pub mod Computed
 pub mod Sheet
-pub mod Marks
 pub mod Writes
+pub mod Marks
 pub mod Outcomes
 pub mod Saves
 pub mod Build

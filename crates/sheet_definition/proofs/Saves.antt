@@ -24,9 +24,9 @@ use Rattle.sheet_definition.specs.Marks.{Worked, held, markAt, stateFrom
 use Rattle.sheet_definition.specs.SheetCalls.{SheetOutcome, refusedWith, acceptedWith, sheetOutcome, checked, stale, zeroMarks, changeOutcome, appendOutcome, dropOutcome}
 use Rattle.sheet_definition.specs.Run.{World, Call, call, claimOf, outOf, placeOf, countOf, refusalsOf}
 use Rattle.sheet_definition.specs.Run.Call.{Change, Append, Drop}
-use Rattle.definition.proofs.Buffer.{length-overwrite, length-overwriteAt}
+use Rattle.definition.proofs.Buffer.{length-overwrite, length-overwriteAt, take-overwriteAt, drop-overwriteAt}
 use Rattle.sheet_definition.proofs.Marks.{digest-from-mark, mark-written, marks-after-work}
-use Rattle.sheet_definition.proofs.Writes.{take-overwriteAt, drop-overwriteAt, marks-kept, Rewritten, rewritten, length-digest}
+use Rattle.sheet_definition.proofs.Writes.{marks-kept, Rewritten, rewritten, length-digest}
 use Rattle.definition.proofs.Conditions.{either-false}
 use Rattle.sheet_definition.proofs.Outcomes.{by-number, none-first, fits}
 

@@ -14,7 +14,7 @@ use Rattle.definition.specs.Block.{wordsOfAll}
 use Rattle.definition.specs.Refusal.{firstOf}
 use Rattle.sheet_definition.specs.Sheet.{q, buildRefusals}
 use Rattle.sheet_definition.specs.Marks.{markOf}
-use Rattle.sheet_definition.proofs.Writes.{overwrite-front}
+use Rattle.definition.proofs.Buffer.{overwrite-front}
 use Rattle.sheet_definition.proofs.Outcomes.{Fits, fits}
 use Rattle.sheet.proofs.Answered.{build-refused, build-together}
 use Rattle.sheet.proofs.build.Statement.{statement}
