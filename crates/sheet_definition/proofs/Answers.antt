@@ -4,7 +4,7 @@ use mathlib.Core.Path.{_≡_, refl, sym, ap, ap₂, _∙_}
 use mathlib.Core.Logic.{_↔_}
 use mathlib.Core.Bool.{Bool, true, false, not, false≢true}
 use mathlib.Core.List.{List}
-use Prim.Native.Nat.{ℕ, suc, _<_, _+_, _*_, _≤_}
+use Prim.Native.Nat.{ℕ, zero, suc, _<_, _+_, _*_, _≤_}
 use native.Mathlib.Nat.{le-refl}
 use native.Mathlib.Omega.{arith}
 use lib.ListN.{length, take, drop}
@@ -22,7 +22,7 @@ use Rattle.definition.proofs.Refusals.{First, first-given, given-first}
 use Rattle.sheet_definition.proofs.Sheet.{check-from-last-mark}
 use Rattle.sheet_definition.proofs.Marks.{digest-from-mark, rounds-from-mark}
 use Rattle.sheet_definition.proofs.Writes.{same-refl, same-eq, put-back}
-use Rattle.sheet_definition.proofs.Outcomes.{Untouched, Rounds, by-number, refused-untouched, number-of, rounds-of, Last, stale-last}
+use Rattle.sheet_definition.proofs.Outcomes.{Untouched, Rounds, refused-untouched, number-of, rounds-of, Last, stale-last}
 use Rattle.sheet_definition.proofs.Saves.{recordOf, marksOf, sheetOf, workOf, staleOf, checkOf, acceptedOf, call-is, Valid, valid, by-answer, save-made, Kept, save-kept}
 
 -- 11 is the last of each save's refusals
@@ -68,7 +68,7 @@ pub save-number : (w : World) (c : Call) → call w c .answer .number ≡ firstO
 unfolding acceptedWith
 save-number w c =
     rw (call-is w c)
-    (number-of (refusalsOf w c (staleOf w c)) (w .n) (checkOf w) (w .sheet) (w .marks) (outOf c) (acceptedOf w c) refl)
+    (number-of _ _ _ _ _ _ (acceptedOf w c) refl)
 
 -- a number before 11 is given exactly when its condition holds and none ranked before it does, whatever the claim and the marks
 pub save-given : (w : World) (c : Call) (k : ℕ) → suc k < STALE → (call w c .answer .number ≡ suc k) ↔ First (suc k) (refusalsOf w c false)
@@ -86,20 +86,12 @@ pub refused-first : (w : World) (c : Call) (k : ℕ) → k ≡ firstOf (refusals
       out = outOf c;
     }
     ≡ call w c
-unfolding refusedWith pick
-refused-first w c k e h =
+unfolding sheetOutcome whenDone refusedWith pick
+refused-first w c zero e h = absurd (h refl)
+refused-first w c (suc k) e h =
     let l = stale-number w c (staleOf w c) .front (λ z. h (e ∙ z)) in
-    rw (call-is w c)
-    (by-number (refusalsOf w c (staleOf w c)) (w .n) (checkOf w) (w .sheet) (w .marks) (outOf c) (acceptedOf w c)
-    (λ o. record {
-      answer = record { number = k; count = w .n; rounds = 0 };
-      sheet = w .sheet;
-      marks = w .marks;
-      out = outOf c;
-    }
-    ≡ o)
-    (λ z. absurd (h (e ∙ l .0 ∙ z)))
-    (λ j f. rw (e ∙ l .0 ∙ f, ne-eqb (suc j) STALE (λ g. l .1 (f ∙ g)))))
+    let f : firstOf (refusalsOf w c (staleOf w c)) ≡ suc k = sym (e ∙ l .0) in
+    rw (call-is w c, f, ne-eqb (suc k) STALE (λ g. l .1 (f ∙ g)))
 
 pub stale-first : (w : World) (c : Call) → firstOf (refusalsOf w c false) ≡ 0 → staleOf w c ≡ true
     → refusedWith STALE (w .n) (checkOf w) (w .sheet) (w .marks) (outOf c) ≡ call w c
@@ -120,7 +112,7 @@ pub save-refused : (w : World) (c : Call) → (call w c .answer .number ≡ 0 �
 unfolding acceptedWith
 save-refused w c =
     rw (call-is w c)
-    (refused-untouched (refusalsOf w c (staleOf w c)) (w .n) (checkOf w) (w .sheet) (w .marks) (outOf c) (acceptedOf w c) refl)
+    (refused-untouched _ _ _ _ _ _ (acceptedOf w c) refl)
 
 -- from true marks, a claim is fresh exactly when it is Luffa of the sheet found
 fresh-claim : (w : World) (c : Call) → TrueMarks (w .code) (w .n) (w .sheet) (w .marks) → 40 * w .n ≤ length (w .sheet)

@@ -2,7 +2,7 @@
 -- Assumes nothing.
 use mathlib.Core.Path.{_≡_, refl, sym, _∙_}
 use mathlib.Core.Logic.{_↔_}
-use mathlib.Core.Bool.{Bool, true, false, not, _||_, false≢true}
+use mathlib.Core.Bool.{Bool, true, false, false≢true}
 use mathlib.Core.List.{List, [], _∷_, _++_}
 use Prim.Native.Nat.{ℕ, zero, suc, _+_, _*_, _<_, _≤_}
 use native.Mathlib.Omega.{arith}
@@ -14,6 +14,7 @@ use Rattle.definition.specs.Refusal.{Refusal, STALE, pick, firstOf, known, widt
 use Rattle.sheet_definition.specs.Sheet.{q, sheetRefusal, marksRefusal}
 use Rattle.sheet_definition.specs.SheetCalls.{SheetOutcome, refusedWith, sheetOutcome}
 use Rattle.definition.proofs.Conditions.{either-false}
+use Rattle.definition.proofs.Every.{Every}
 use Rattle.definition.proofs.Refusals.{First, first-given, given-first}
 
 -- what a refused call leaves
@@ -73,11 +74,12 @@ module _ (rs : List Refusal) (n check : ℕ) (sheet marks out : List ℕ) (done 
         none = λ h i. rw (ne-eqb (suc k) STALE i);
       })
 
--- the first of a list of refusals that gives 0 doesn't hold, nor does one after it
-pub none-first : (k : ℕ) (b : Bool) (rs : List Refusal) → firstOf ((suc k, b) ∷ rs) ≡ 0 → (b ≡ false) × (firstOf rs ≡ 0)
+-- of refusals in front of others that give 0 none holds
+pub none-of : (rs ss : List Refusal) → Every (λ r. 0 < r .0) rs → firstOf (rs ++ ss) ≡ 0 → Every (λ r. r .1 ≡ false) rs × (firstOf ss ≡ 0)
 unfolding firstOf pick
-none-first k true rs e = absurd (omega arith)
-none-first k false rs e = (refl, e)
+none-of [] ss h e = (tt, e)
+none-of ((n, true) ∷ rs) ss h e = absurd (omega arith)
+none-of ((n, false) ∷ rs) ss h e = let i = none-of rs ss (h .1) e in ((refl, i .0), i .1)
 
 -- what the four refusals that each sheet call begins with leave
 pub record Fits (code sheet n marks out : ℕ) : Type 0 where
@@ -92,25 +94,21 @@ pub fits : (code sheet n marks out : ℕ) (rs : List Refusal)
     → Fits code sheet n marks out × (firstOf rs ≡ 0)
 unfolding widthRefusal outRefusal sheetRefusal marksRefusal
 fits code sheet n marks out rs e =
-    let w = none-first 0 (not (known code)) _ e in
-    let o = none-first 1 (ltb out (bytesAt code)) _ (w .1) in
-    let s = none-first 4 (ltb 1024 n || ltb sheet (40 * n)) _ (o .1) in
-    let m = none-first 5 (ltb marks (40 * (q n + 1))) rs (s .1) in
-    let b = either-false (ltb 1024 n) (ltb sheet (40 * n)) (s .0) in (
+    let h = none-of (widthRefusal code ∷ outRefusal code out ∷ sheetRefusal n sheet ∷ marksRefusal n marks ∷ []) rs (omega arith) e in
+    let b = either-false (ltb 1024 n) (ltb sheet (40 * n)) (h .0 .1 .1 .0) in (
       record {
-        code-known = not-false (known code) (w .0);
-        out-room = ltb-false out (bytesAt code) (o .0);
+        code-known = not-false (known code) (h .0 .0);
+        out-room = ltb-false out (bytesAt code) (h .0 .1 .0);
         count = ltb-false 1024 n (b .0);
         sheet-room = ltb-false sheet (40 * n) (b .1);
-        marks-room = ltb-false marks (40 * (q n + 1)) (m .0);
+        marks-room = ltb-false marks (40 * (q n + 1)) (h .0 .1 .1 .1 .0);
       },
-      m .1,
+      h .1,
     )
 
 -- numbers below 11, and not 0
 abbrev pub Earlier : List Refusal → Type 0
-Earlier [] = Unit
-Earlier (r ∷ rs) = (0 < r .0) × (r .0 < STALE) × Earlier rs
+Earlier = Every (λ r. (0 < r .0) × (r .0 < STALE))
 
 -- a list of refusals that ends in 11 gives a number before 11 whatever the claim; 11 or 0, as the claim decides, where none of those holds
 pub record Last (rs : Bool → List Refusal) (b : Bool) : Type 0 where
@@ -140,5 +138,5 @@ stale-last ((n, true) ∷ rs) b h = record {
   done = (λ e. absurd (omega arith), λ e. absurd (omega arith));
 }
 stale-last ((n, false) ∷ rs) b h =
-    let l = stale-last rs b (h .2) in
+    let l = stale-last rs b (h .1) in
     record { front = l .front; other = l .other; stale = l .stale; done = l .done }

@@ -2,13 +2,13 @@
 -- sheet it found; the bytes, words and rounds are those that document 01 names: one law for change, append and drop.
 -- Assumes nothing.
 use mathlib.Core.Path.{_≡_, refl, sym, ap, _∙_}
-use mathlib.Core.Bool.{Bool, not}
+use mathlib.Core.Bool.{Bool, false, not}
 use mathlib.Core.List.{List, [], _∷_}
 use Prim.Native.Nat.{ℕ, suc, _+_, _-_, _*_, _<_, _≤_}
 use native.Mathlib.Nat.{le-refl}
 use native.Mathlib.Decide.{ℕ-discrete}
 use native.Mathlib.Omega.{arith}
-use lib.Dec.{leb, eqb}
+use lib.Dec.{eqb}
 use lib.ListN.{length, take, drop, replicate, length-replicate}
 use lib.Seq.{take-take}
 use borrow.Author.Tests.{ltb-false, leb-false, eqb-true, eqb-false, eq-eqb, ne-eqb, not-false}
@@ -28,7 +28,7 @@ use Rattle.definition.proofs.Buffer.{length-overwrite, length-overwriteAt, take
 use Rattle.sheet_definition.proofs.Marks.{digest-from-mark, mark-written, marks-after-work}
 use Rattle.sheet_definition.proofs.Writes.{marks-kept, Rewritten, rewritten, length-digest}
 use Rattle.definition.proofs.Conditions.{either-false}
-use Rattle.sheet_definition.proofs.Outcomes.{by-number, none-first, fits}
+use Rattle.sheet_definition.proofs.Outcomes.{by-number, none-of, fits}
 
 -- a true mark stays true where its words and the groups before it are as they were
 true-still : (code m k : ℕ) (sheet' sheet marks' marks : List ℕ) → take (160 * m) sheet' ≡ take (160 * m) sheet → k ≤ m
@@ -117,44 +117,26 @@ pub record Valid (w : World) (c : Call) : Type 0 where
   pub new-sheet-room : 40 * countOf w c ≤ length (w .sheet)
   pub new-marks-room : 40 * (q (countOf w c) + 1) ≤ length (w .marks)
 
+-- a test that two numbers differ, failed
+equal : (a b : ℕ) → not (eqb a b) ≡ false → a ≡ b
+equal a b e = eqb-true a b (not-false (eqb a b) e)
+
 pub valid : (w : World) (c : Call) (b : Bool) → firstOf (refusalsOf w c b) ≡ 0 → Valid w c
 unfolding refusalsOf changeRefusals appendRefusals dropRefusals sizeRefusal claimRefusal claimOf outOf placeOf countOf recordOf q
 valid w (Change place x claim out) b e =
     let f = fits (w .code) (length (w .sheet)) (w .n) (length (w .marks)) (length out) _ e in
-    let p = none-first 6 (leb (w .n) place) _ (f .1) in
-    let s = none-first 8 (not (eqb (length x) 40)) _ (p .1) in
-    let k = none-first 9 (not (eqb (length claim) (bytesAt (w .code)))) _ (s .1) in
-    omega (
-      arith,
-      leb-false (w .n) place (p .0),
-      eqb-true (length x) 40 (not-false _ (s .0)),
-      eqb-true (length claim) (bytesAt (w .code)) (not-false _ (k .0)),
-    )
+    let h = none-of (drop 4 (refusalsOf w (Change place x claim out) b)) [] (omega arith) (f .1) in
+    omega (arith, leb-false, equal)
 valid w (Append x claim out) b e =
     let f = fits (w .code) (length (w .sheet)) (w .n) (length (w .marks)) (length out) _ e in
-    let p = none-first 7 _ _ (f .1) in
-    let s = none-first 8 (not (eqb (length x) 40)) _ (p .1) in
-    let k = none-first 9 (not (eqb (length claim) (bytesAt (w .code)))) _ (s .1) in
-    let t = either-false _ _ (p .0) in
+    let h = none-of (drop 4 (refusalsOf w (Append x claim out) b)) [] (omega arith) (f .1) in
+    let t = either-false _ _ (h .0 .0) in
     let u = either-false _ _ (t .0) in
-    omega (
-      arith,
-      eqb-false (w .n) 1024 (u .0),
-      ltb-false (length (w .sheet)) (40 * (w .n + 1)) (u .1),
-      ltb-false (length (w .marks)) (40 * (q (w .n + 1) + 1)) (t .1),
-      eqb-true (length x) 40 (not-false _ (s .0)),
-      eqb-true (length claim) (bytesAt (w .code)) (not-false _ (k .0)),
-    )
+    omega (arith, eqb-false (w .n) 1024 (u .0), ltb-false, equal)
 valid w (Drop claim out) b e =
     let f = fits (w .code) (length (w .sheet)) (w .n) (length (w .marks)) (length out) _ e in
-    let p = none-first 6 (eqb (w .n) 0) _ (f .1) in
-    let k = none-first 9 (not (eqb (length claim) (bytesAt (w .code)))) _ (p .1) in
-    omega (
-      arith,
-      eqb-false (w .n) 0 (p .0),
-      eqb-true (length claim) (bytesAt (w .code)) (not-false _ (k .0)),
-      length-replicate {A = ℕ} 40 0,
-    )
+    let h = none-of (drop 4 (refusalsOf w (Drop claim out) b)) [] (omega arith) (f .1) in
+    omega (arith, eqb-false (w .n) 0 (h .0 .0), equal, length-replicate {A = ℕ} 40 0)
 
 -- what holds of an accepted save and of each refused one holds of the save; the arguments of an accepted one are valid
 pub by-answer : (w : World) (c : Call) (P : SheetOutcome → Type 0) → (Valid w c → P (acceptedOf w c))
