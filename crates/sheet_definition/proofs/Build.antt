@@ -19,10 +19,10 @@ use Rattle.sheet_definition.specs.SheetCalls.{SheetOutcome, refusedWith,
 use Rattle.definition.proofs.Buffer.{length-overwrite, drop-overwriteAt, overwrite-front}
 use Rattle.definition.proofs.Chain.{length-start}
 use Rattle.sheet_definition.proofs.Sheet.{build-from-start}
-use Rattle.sheet_definition.proofs.Marks.{length-mark, state-of-mark, digest-from-mark, rounds-from-mark, mark-written, marks-after-work}
+use Rattle.sheet_definition.proofs.Marks.{length-mark, state-of-mark, rounds-from-mark}
 use Rattle.sheet_definition.proofs.Writes.{marks-kept, Rewritten, rewritten, length-digest}
 use Rattle.sheet_definition.proofs.Outcomes.{Rounds, by-number, rounds-of, Fits, fits}
-use Rattle.sheet_definition.proofs.Saves.{Written, Made}
+use Rattle.sheet_definition.proofs.Saves.{Written, Made, work-over}
 
 -- mark 0 as a build writes it
 abbrev begun : (code : ℕ) → List ℕ → List ℕ
@@ -44,21 +44,21 @@ module _ (code : ℕ) (sheet : List ℕ) (n : ℕ) (marks out : List ℕ) where
   abbrev work : Worked
   work = worked code n sheet (begun code marks) 0
 
-  length-begun : 40 ≤ length marks → length (begun code marks) ≡ length marks
-  length-begun h = length-overwrite (markOf (start (widthAt code))) marks (omega (arith, length-mark (start (widthAt code))))
+  -- the arguments of an accepted build are valid
+  abbrev Fitting : Type 0
+  Fitting = Fits code (length sheet) n (length marks) (length out)
 
-  by-build : (P : SheetOutcome → Type 0) → (Fits code (length sheet) n (length marks) (length out) → P (acceptedWith n 0 sheet work out))
+  length-begun : Fitting → length (begun code marks) ≡ length marks
+  length-begun f = length-overwrite (markOf (start (widthAt code))) marks (omega (arith, length-mark (start (widthAt code))))
+
+  by-build : (P : SheetOutcome → Type 0) → (Fitting → P (acceptedWith n 0 sheet work out))
       → ((k : ℕ) → P (refusedWith (suc k) n 0 sheet marks out)) → P (buildOutcome code sheet n marks out)
   unfolding buildOutcome buildRefusals
-  by-build P a b =
-      by-number (buildRefusals code (length sheet) n (length marks) (length out)) n 0 sheet marks out (acceptedWith n 0 sheet work out) P
-      (λ e. a (fits code (length sheet) n (length marks) (length out) [] e .0)) (λ k e. b k)
+  by-build P a b = by-number _ n 0 sheet marks out (acceptedWith n 0 sheet work out) P (λ e. a (fits code _ n _ _ [] e .0)) (λ k e. b k)
 
-  -- an accepted build's arguments are valid
-  pub build-fits : buildOutcome code sheet n marks out .answer .number ≡ 0 → Fits code (length sheet) n (length marks) (length out)
+  pub build-fits : buildOutcome code sheet n marks out .answer .number ≡ 0 → Fitting
   unfolding refusedWith
-  build-fits =
-      by-build (λ o. o .answer .number ≡ 0 → Fits code (length sheet) n (length marks) (length out)) (λ f e. f) (λ k e. absurd (omega arith))
+  build-fits = by-build (λ o. o .answer .number ≡ 0 → Fitting) (λ f e. f) (λ k e. absurd (omega arith))
 
   -- true marks, and the digest
   pub build-made : buildOutcome code sheet n marks out .answer .number ≡ 0 → Made code 0 out (buildOutcome code sheet n marks out)
@@ -69,25 +69,23 @@ module _ (code : ℕ) (sheet : List ℕ) (n : ℕ) (marks out : List ℕ) where
       zero-true zero h = begun-true code sheet marks
       zero-true (suc k) h = absurd (omega arith)
 
-      written : Fits code (length sheet) n (length marks) (length out) → Written code n 0 sheet (work .marks)
-      written f zero h i = unfold chain blocks blocksTo in
+      first : Fitting → markAt (work .marks) 0 ≡ markOf (start (widthAt code))
+      first f =
           marks-kept 0 0 (work .marks) (begun code marks)
-          (rewritten code n 0 sheet (begun code marks) (omega arith) (omega (arith, length-begun (omega arith))) .front) (omega arith)
+          (rewritten code n 0 sheet (begun code marks) (omega arith) (omega (arith, length-begun f)) .front) (omega arith)
           ∙ begun-mark code marks
-      written f (suc k) h i =
-          mark-written code n 0 (suc k) sheet (begun code marks) (begun-true code sheet marks) (omega arith) i (f .sheet-room)
-          (omega (arith, length-begun (omega arith)))
 
-      accepted : Fits code (length sheet) n (length marks) (length out) → Made code 0 out (acceptedWith n 0 sheet work out)
-      accepted f = record {
-        marks-true =
-            marks-after-work code n 0 sheet (begun code marks) zero-true (omega arith) (f .sheet-room)
-            (omega (arith, length-begun (omega arith)));
-        written = written f;
-        digest =
-            ap (λ (d : List ℕ). overwrite d out)
-            (digest-from-mark code n 0 sheet (begun code marks) (zero-true 0 (omega arith)) (omega arith) (f .sheet-room));
-      }
+      accepted : Fitting → Made code 0 out (acceptedWith n 0 sheet work out)
+      accepted f =
+          let b : length (begun code marks) ≡ length marks = length-begun f in
+          let m =
+          work-over code n 0 sheet sheet (begun code marks) (begun code marks) refl (λ k h. refl) zero-true (omega arith) (f .sheet-room) (omega arith)
+          in
+          record { marks-true = m .0; written = from-first f (m .1); digest = ap (λ (d : List ℕ). overwrite d out) (m .2) }
+        where
+          from-first : Fitting → Written code n 1 sheet (work .marks) → Written code n 0 sheet (work .marks)
+          from-first f w zero h i = unfold chain blocks blocksTo in first f
+          from-first f w (suc k) h i = w (suc k) (omega arith) i
 
   -- whatever the answer, the sheet, the lengths and the words after its marks are as they were
   pub record BuildKept (o : SheetOutcome) : Type 0 where
@@ -99,15 +97,14 @@ module _ (code : ℕ) (sheet : List ℕ) (n : ℕ) (marks out : List ℕ) where
 
   pub build-kept : BuildKept (buildOutcome code sheet n marks out)
   unfolding acceptedWith refusedWith
-  build-kept = by-build (BuildKept) accepted
-      (λ k. record { count-kept = refl; sheet-kept = refl; marks-size = refl; out-size = refl; marks-back = λ e h. refl })
+  build-kept = by-build BuildKept accepted (λ k. search)
     where
       m : List ℕ
       m = markOf (start (widthAt code))
 
-      accepted : Fits code (length sheet) n (length marks) (length out) → BuildKept (acceptedWith n 0 sheet work out)
+      accepted : Fitting → BuildKept (acceptedWith n 0 sheet work out)
       accepted f =
-          let b : length (begun code marks) ≡ length marks = length-begun (omega arith) in
+          let b : length (begun code marks) ≡ length marks = length-begun f in
           let a : Rewritten n 0 (work .marks) (begun code marks) = rewritten code n 0 sheet (begun code marks) (omega arith) (omega arith) in
           record {
             count-kept = refl;
@@ -121,9 +118,8 @@ module _ (code : ℕ) (sheet : List ℕ) (n : ℕ) (marks out : List ℕ) where
   pub build-rounds : Rounds (buildOutcome code sheet n marks out .answer) (buildRounds code n) 0
   unfolding buildOutcome buildRefusals acceptedWith
   build-rounds =
-      rounds-of (buildRefusals code (length sheet) n (length marks) (length out)) n 0 sheet marks out (acceptedWith n 0 sheet work out)
-      (buildRounds code n) 0 refl
+      rounds-of _ n 0 sheet marks out (acceptedWith n 0 sheet work out) (buildRounds code n) 0 refl
       (λ e. zero-add (work .rounds)
-      ∙ rounds-from-mark code n 0 sheet (begun code marks) (omega arith) (fits code (length sheet) n (length marks) (length out) [] e .0 .sheet-room)
+      ∙ rounds-from-mark code n 0 sheet (begun code marks) (omega arith) (fits code _ n _ _ [] e .0 .sheet-room)
       ∙ sym (build-from-start code n))
       (λ e. refl)

@@ -4,26 +4,27 @@
 use mathlib.Core.Path.{_≡_, refl, sym, ap, ap₂, _∙_}
 use mathlib.Core.Logic.{_↔_}
 use mathlib.Core.Bool.{false}
-use mathlib.Core.List.{List, [], _∷_, _++_, append-nil}
+use mathlib.Core.List.{List, [], _∷_, append-nil}
 use Prim.Native.Nat.{ℕ, suc, _+_, _-_, _*_, _<_, _≤_}
 use native.Mathlib.Omega.{arith}
 use lib.ListN.{length, take, drop, length-append, length-set}
 use lib.Seq.{length-take-le, take-take}
 use Rattle.definition.specs.Luffa.{luffa}
-use Rattle.definition.specs.Buffer.{overwriteAt, overwrite, joined}
+use Rattle.definition.specs.Buffer.{overwrite, joined}
 use Rattle.definition.specs.Refusal.{STALE, firstOf}
 use Rattle.sheet_definition.specs.Sheet.{q, checkRounds}
 use Rattle.sheet_definition.specs.Marks.{held, markAt, TrueMarks}
 use Rattle.sheet_definition.specs.SheetCalls.{SheetOutcome, refusedWith, acceptedWith, buildOutcome}
 use Rattle.sheet_definition.specs.Run.{World, Call, call, claimOf, outOf, placeOf, countOf, refusalsOf, roundsOf, left, next, run, applied, records, cut}
 use Rattle.sheet_definition.specs.Run.Call.{Change, Append, Drop}
+use Rattle.definition.proofs.Every.{every-take, every-append, every-set}
 use Rattle.definition.proofs.Refusals.{First}
 use Rattle.definition.proofs.Buffer.{take-overwriteAt, drop-overwriteAt}
 use Rattle.sheet_definition.proofs.Outcomes.{Untouched, Rounds, Fits}
 use Rattle.sheet_definition.proofs.Saves.{recordOf, sheetOf, acceptedOf, Valid, by-answer, Written, Made, save-made, Kept, save-kept, save-marks}
 use Rattle.sheet_definition.proofs.Build.{build-fits, build-made, BuildKept, build-kept}
 use Rattle.sheet_definition.proofs.Answers.{save-rounds, save-given, save-refused, save-accepted, save-stale, accepted-is, change-back}
-use Rattle.sheet_definition.proofs.Joined.{Forty, forty-set, forty-append, forty-take, joined-append, joined-take, joined-set, take-overwritten, take-added, length-cut, forty-cut, joined-cut}
+use Rattle.sheet_definition.proofs.Joined.{Forty, joined-append, joined-take, joined-set, take-overwritten, take-added, length-cut, forty-cut, joined-cut}
 
 -- a world stands for a list of records
 pub record Stands (w : World) (rs : List (List ℕ)) : Type 0 where
@@ -45,32 +46,37 @@ same-records : (w : World) (c : Call) (rs : List (List ℕ)) → Stands w rs →
 unfolding applied countOf placeOf recordOf held joined
 same-records w (Change place x claim out) rs s v =
     record {
-      sized = forty-set rs place x (v .size) (s .sized);
+      sized = every-set _ rs place x (v .size) (s .sized);
       counted = length-set rs place x ∙ s .counted;
-      holds =
-          take-overwritten (40 * place) (40 * w .n) x (w .sheet) (omega arith) (v .sheet-room)
-          ∙ ap (overwriteAt (40 * place) x) (s .holds) ∙ sym (joined-set rs place x (v .size) (s .sized) (omega arith));
+      holds = rw (
+        take-overwritten (40 * place) (40 * w .n) x (w .sheet) (omega arith) (v .sheet-room),
+        joined-set rs place x (v .size) (s .sized) (omega arith),
+        s .holds,
+      );
     }
 same-records w (Append x claim out) rs s v =
     record {
-      sized = forty-append rs x (v .size) (s .sized);
+      sized = every-append _ rs (x ∷ []) (s .sized) (v .size, tt);
       counted = length-append rs (x ∷ []) ∙ ap (λ (k : ℕ). k + 1) (s .counted);
-      holds =
-          take-added (40 * w .n) (40 * (w .n + 1)) x (w .sheet) (omega arith) (v .sheet-room)
-          ∙ ap (λ (l : List ℕ). l ++ x) (s .holds)
-          ∙ sym (joined-append rs (x ∷ []) ∙ ap (λ (l : List ℕ). joined rs ++ l) (append-nil x));
+      holds = rw (
+        take-added (40 * w .n) (40 * (w .n + 1)) x (w .sheet) (omega arith) (v .sheet-room),
+        joined-append rs (x ∷ []),
+        append-nil x,
+        s .holds,
+      );
     }
 same-records w (Drop claim out) rs s v =
     let n : length rs - 1 ≡ w .n - 1 = omega (arith, s .counted) in
     record {
-      sized = forty-take rs (length rs - 1) (s .sized);
+      sized = every-take _ rs (length rs - 1) (s .sized);
       counted = length-take-le (length rs - 1) rs (omega arith) ∙ n;
-      holds =
-          take-overwriteAt (40 * (w .n - 1)) (40 * (w .n - 1)) (recordOf (Drop claim out)) (w .sheet) (omega arith) (omega arith)
-          ∙ sym (take-take (40 * (w .n - 1)) (40 * w .n) (w .sheet) (omega arith))
-          ∙ ap (take (40 * (w .n - 1))) (s .holds)
-          ∙ ap (λ (k : ℕ). take (40 * k) (joined rs)) (sym n)
-          ∙ sym (joined-take rs (length rs - 1) (s .sized));
+      holds = rw (
+        take-overwriteAt (40 * (w .n - 1)) (40 * (w .n - 1)) (recordOf (Drop claim out)) (w .sheet) (omega arith) (omega arith),
+        joined-take rs (length rs - 1) (s .sized),
+        ← s .holds,
+        take-take (40 * (length rs - 1)) (40 * w .n) (w .sheet) (omega arith),
+        n,
+      );
     }
 
 -- a call leaves a world that stands for the list that it leaves

@@ -1,7 +1,7 @@
 -- Document 01's "Examples at the edges" that are marked [P], as one table under one theorem.
-use Prim.Native.Nat.{ℕ}
+use Prim.Native.Nat.{ℕ, _+_}
 use mathlib.Core.Bool.{Bool}
-use mathlib.Core.Path.{_≡_, refl}
+use mathlib.Core.Path.{_≡_}
 use mathlib.Core.List.{[], _∷_}
 use lib.ListN.{length, getD, replicate}
 use Rattle.definition.specs.declared.Pair.{Pair}
@@ -11,7 +11,7 @@ use Rattle.definition.specs.MixWord.{mixWord}
 use Rattle.definition.specs.Constant.{constants}
 use Rattle.definition.specs.Padding.{closing, padded, blocks}
 use Rattle.definition.specs.Refusal.{firstOf, PLACE}
-use Rattle.sheet_definition.specs.Sheet.{buildRounds, changeRounds, appendRounds, dropRounds, written, zeroed, changeRefusals}
+use Rattle.sheet_definition.specs.Sheet.{buildRounds, changeRounds, appendRounds, dropRounds, q, zeroed, changeRefusals}
 use Rattle.sheet_definition.proofs.Computed.{everything}
 
 -- the pair of no constants, where a list has no entry
@@ -47,34 +47,12 @@ pub record Table : Type 0 where
   pub change-1024-0 : changeRounds 4 1024 0 ≡ 1286
   pub change-1024-1023 : changeRounds 4 1024 1023 ≡ 11
   pub append-3 : appendRounds 2 3 ≡ 12
-  pub append-3-marks : written 4 0 ≡ 1 ∷ []
+  -- the marks that it writes: those after mark q of 3 records, to mark q of 4
+  pub append-3-first-mark : q 3 + 1 ≡ 1
+  pub append-3-last-mark : q (3 + 1) ≡ 1
   pub drop-4 : dropRounds 2 4 ≡ 7
   pub drop-4-marks : zeroed 4 ≡ 1 ∷ []
 
 pub examples : Table
 unfolding everything
-examples =
-    record {
-      s-0 = refl;
-      s-15 = refl;
-      doubling = refl;
-      mixing = refl;
-      constants-0-0 = refl;
-      constant-1-5-4 = refl;
-      blocks-0 = refl;
-      blocks-31 = refl;
-      blocks-32 = refl;
-      build-0 = refl;
-      build-1 = refl;
-      build-4 = refl;
-      build-1024 = refl;
-      change-5-4 = refl;
-      change-5-0 = refl;
-      change-5-5 = λ stale. refl;
-      change-1024-0 = refl;
-      change-1024-1023 = refl;
-      append-3 = refl;
-      append-3-marks = refl;
-      drop-4 = refl;
-      drop-4-marks = refl;
-    }
+examples = search

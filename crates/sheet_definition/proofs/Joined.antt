@@ -10,27 +10,13 @@ use lib.Seq.{length-take-le, take-nil, take-at, drop-at, take-append-le, drop-ap
 use Rattle.definition.specs.Buffer.{overwriteAt, joined}
 use Rattle.sheet_definition.specs.Run.{cut}
 use Rattle.definition.proofs.Buffer.{length-overwriteAt}
+use Rattle.definition.proofs.Every.{Every}
 
 -- each is of 40 bytes
 abbrev pub Forty : List (List ℕ) → Type 0
-Forty [] = Unit
-Forty (x ∷ rs) = (length x ≡ 40) × Forty rs
+Forty = Every (λ x. length x ≡ 40)
 
-pub forty-set : (rs : List (List ℕ)) (p : ℕ) (x : List ℕ) → length x ≡ 40 → Forty rs → Forty (set rs p x)
-forty-set [] p x e f = tt
-forty-set (y ∷ rs) zero x e f = (e, f .1)
-forty-set (y ∷ rs) (suc p) x e f = (f .0, forty-set rs p x e (f .1))
-
-pub forty-append : (rs : List (List ℕ)) (x : List ℕ) → length x ≡ 40 → Forty rs → Forty (rs ++ x ∷ [])
-forty-append [] x e f = (e, tt)
-forty-append (y ∷ rs) x e f = (f .0, forty-append rs x e (f .1))
-
-pub forty-take : (rs : List (List ℕ)) (k : ℕ) → Forty rs → Forty (take k rs)
-forty-take rs zero f = tt
-forty-take [] (suc k) f = tt
-forty-take (y ∷ rs) (suc k) f = (f .0, forty-take rs k (f .1))
-
-pub length-joined : (rs : List (List ℕ)) → Forty rs → length (joined rs) ≡ 40 * length rs
+length-joined : (rs : List (List ℕ)) → Forty rs → length (joined rs) ≡ 40 * length rs
 unfolding joined
 length-joined [] f = refl
 length-joined (x ∷ rs) f = omega (arith, length-append x (joined rs), length-joined rs (f .1))
@@ -45,26 +31,24 @@ unfolding joined
 joined-take rs zero f = refl
 joined-take [] (suc k) f = sym (take-nil (40 * suc k))
 joined-take (x ∷ rs) (suc k) f =
-    let e : length x + 40 * k ≡ 40 * suc k = omega arith in
-    ap (λ (l : List ℕ). x ++ l) (joined-take rs k (f .1)) ∙ sym (take-append-add x (joined rs) (40 * k))
-    ∙ ap (λ (i : ℕ). take i (x ++ joined rs)) e
+    let e : 40 * suc k ≡ length x + 40 * k = omega arith in
+    rw (joined-take rs k (f .1), e, take-append-add x (joined rs) (40 * k))
 
 -- a piece written behind the front of a list
 overwrite-behind : (y : List ℕ) (i : ℕ) (p l : List ℕ) → overwriteAt (length y + i) p (y ++ l) ≡ y ++ overwriteAt i p l
 unfolding overwriteAt
 overwrite-behind y i p l =
     rw (take-append-add y l i, add-assoc (length y) i (length p), drop-append-add y l (i + length p))
-    (ap (λ (z : List ℕ). z ++ drop (i + length p) l) (append-assoc y (take i l) p) ∙ append-assoc y (take i l ++ p) (drop (i + length p) l))
+    (simp append-assoc)
 
 pub joined-set : (rs : List (List ℕ)) (p : ℕ) (x : List ℕ) → length x ≡ 40 → Forty rs → p < length rs
     → joined (set rs p x) ≡ overwriteAt (40 * p) x (joined rs)
 unfolding joined overwriteAt
 joined-set [] p x e f h = absurd (omega arith)
-joined-set (y ∷ rs) zero x e f h = ap (λ (l : List ℕ). x ++ l) (sym (drop-at y (joined rs) (0 + length x) (omega arith)))
+joined-set (y ∷ rs) zero x e f h = rw (drop-at y (joined rs) (0 + length x) (omega arith))
 joined-set (y ∷ rs) (suc p) x e f h =
-    let j : length y + 40 * p ≡ 40 * suc p = omega arith in
-    ap (λ (l : List ℕ). y ++ l) (joined-set rs p x e (f .1) (omega arith)) ∙ sym (overwrite-behind y (40 * p) x (joined rs))
-    ∙ ap (λ (i : ℕ). overwriteAt i x (y ++ joined rs)) j
+    let j : 40 * suc p ≡ length y + 40 * p = omega arith in
+    rw (joined-set rs p x e (f .1) (omega arith), j) (sym (overwrite-behind y (40 * p) x (joined rs)))
 
 -- a piece written into the front of a list
 overwrite-append : (i : ℕ) (p l r : List ℕ) → i + length p ≤ length l → overwriteAt i p (l ++ r) ≡ overwriteAt i p l ++ r
@@ -76,9 +60,8 @@ overwrite-append i p l r h =
 pub take-overwritten : (i j : ℕ) (p l : List ℕ) → i + length p ≤ j → j ≤ length l → take j (overwriteAt i p l) ≡ overwriteAt i p (take j l)
 take-overwritten i j p l h n =
     let k : length (take j l) ≡ j = length-take-le j l n in
-    ap (λ (z : List ℕ). take j (overwriteAt i p z)) (sym (take-append-drop j l))
-    ∙ ap (take j) (overwrite-append i p (take j l) (drop j l) (omega arith))
-    ∙ take-at (overwriteAt i p (take j l)) (drop j l) j (length-overwriteAt i p (take j l) (omega arith) ∙ k)
+    let s = rw (take-append-drop j l) at (overwrite-append i p (take j l) (drop j l) (omega arith)) in
+    rw s (take-at (overwriteAt i p (take j l)) (drop j l) j (length-overwriteAt i p (take j l) (omega arith) ∙ k))
 
 -- a piece written at the end of the front
 pub take-added : (i j : ℕ) (p l : List ℕ) → i + length p ≡ j → i ≤ length l → take j (overwriteAt i p l) ≡ take i l ++ p
@@ -101,5 +84,5 @@ pub joined-cut : (n : ℕ) (l : List ℕ) → joined (cut n l) ≡ take (40 * n)
 unfolding cut joined
 joined-cut zero l = refl
 joined-cut (suc n) l =
-    let e : 40 + 40 * n ≡ 40 * suc n = omega arith in
-    ap (λ (z : List ℕ). take 40 l ++ z) (joined-cut n (drop 40 l)) ∙ sym (take-add 40 (40 * n) l) ∙ ap (λ (i : ℕ). take i l) e
+    let e : 40 * suc n ≡ 40 + 40 * n = omega arith in
+    rw (joined-cut n (drop 40 l), e, take-add 40 (40 * n) l)

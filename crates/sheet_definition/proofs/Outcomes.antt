@@ -58,7 +58,7 @@ module _ (rs : List Refusal) (n check : ℕ) (sheet marks out : List ℕ) (done 
   unfolding refusedWith
   refused-untouched d =
       by-number (λ o. (o .answer .number ≡ 0 → ⊥) → Untouched n sheet marks out o) (λ e f. absurd (f d))
-      (λ k e f. record { count = refl; sheet-kept = refl; marks-kept = refl; out-kept = refl })
+      (λ k e f. search)
 
   -- rounds, from those of the accepted outcome and of the check
   pub rounds-of : (accepted' check' : ℕ) → done .answer .number ≡ 0

@@ -168,13 +168,13 @@ zeroes n p marks h i l =
         front = take-overwriteAt (40 * q n) (40 * (q p + 1)) z marks (omega arith) (omega arith);
         back = λ d f. drop-overwriteAt (40 * q n) (40 * (d + 1)) z marks (omega arith) (omega arith);
       })
-      | no e ↦ rw (zero-none n e) (record { size = refl; front = refl; back = λ d f. refl })
+      | no e ↦ rw (zero-none n e) (search)
     ]
 
 kept-marks : (w : World) (c : Call) → Valid w c → Rewritten (w .n) (q (placeOf w c)) (marksOf w c) (w .marks)
 unfolding marksOf placeOf countOf
-kept-marks w (Change place x claim out) v = record { size = refl; front = refl; back = λ e h. refl }
-kept-marks w (Append x claim out) v = record { size = refl; front = refl; back = λ e h. refl }
+kept-marks w (Change place x claim out) v = search
+kept-marks w (Append x claim out) v = search
 kept-marks w (Drop claim out) v = zeroes (w .n) (w .n - 1) (w .marks) (omega arith) (omega arith) (v .marks-room)
 
 -- what stays as it was, whatever the answer: the lengths, the bytes around the record named, the marks up to its group, and the words
@@ -192,15 +192,7 @@ pub save-kept : (w : World) (c : Call) → Kept w c (call w c)
 unfolding acceptedWith refusedWith
 save-kept w c =
     by-answer w c (Kept w c) accepted
-    (λ k. record {
-      sheet-size = refl;
-      marks-size = refl;
-      out-size = refl;
-      sheet-front = refl;
-      sheet-back = refl;
-      marks-front = refl;
-      marks-back = λ e h i. refl;
-    })
+    (λ k. search)
   where
     i : ℕ
     i = 40 * placeOf w c

@@ -5,11 +5,6 @@ use Prim.Native.Nat.{ℕ, _+_, _*_}
 use native.Mathlib.Omega.{arith}
 use Rattle.sheet_definition.specs.Sheet.{q, r, N, roundsFrom, buildRounds, checkRounds}
 
--- n = 4q + r
-pub groups : (n : ℕ) → n ≡ 4 * q n + r n
-unfolding q r
-groups n = omega arith
-
 -- N = 5q + r + 1
 pub blocks-of-sheet : (n : ℕ) → N n ≡ 5 * q n + r n + 1
 unfolding N q r

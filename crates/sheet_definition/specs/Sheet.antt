@@ -1,6 +1,6 @@
 -- The sheet's numbers: document 01, "Sheet and marks" and refusals 5 to 11. A sheet is n records of 40 bytes, four to a group of five
 -- message blocks; mark m is the state after the first m groups. Lengths of buffers stand for the buffers.
-use Prim.Native.Nat.{ℕ, zero, suc, _+_, _-_, _*_, _/_, _%_}
+use Prim.Native.Nat.{ℕ, _+_, _-_, _*_, _/_, _%_}
 use mathlib.Core.Bool.{Bool, true, false, not, _||_}
 use mathlib.Core.List.{List, [], _∷_}
 use lib.Dec.{leb, ltb, eqb}
@@ -52,15 +52,6 @@ appendRounds code n = checkRounds code n + roundsFrom code (n + 1) (q n)
 
 unfoldable pub dropRounds : (code n : ℕ) → ℕ
 dropRounds code n = checkRounds code n + roundsFrom code (n - 1) (q (n - 1))
-
--- count numbers from the first on
-unfoldable pub range : (first count : ℕ) → List ℕ
-range first zero = []
-range first (suc count) = first ∷ range (first + 1) count
-
--- the marks that work on from mark m under n records writes: those after m
-unfoldable pub written : (n m : ℕ) → List ℕ
-written n m = range (m + 1) (q n - m)
 
 onlyWhen : Bool → ℕ → List ℕ
 onlyWhen true m = m ∷ []
