@@ -42,19 +42,19 @@ abbrev pub AllWords : List Block → Type 0
 AllWords = Every Words
 
 -- both words of a pair of constants
-pub record PairWords (c : Pair) : Type 0 where
-  pub left-word : c .left < 2 ^ 32
-  pub right-word : c .right < 2 ^ 32
+record PairWords (c : Pair) : Type 0 where
+  left-word : c .left < 2 ^ 32
+  right-word : c .right < 2 ^ 32
 
 -- n bits make a number of n bits
-pub fromBits-lt : (n : ℕ) (f : ℕ → ℕ) → ((l : ℕ) → f l < 2) → fromBits n f < 2 ^ n
+fromBits-lt : (n : ℕ) (f : ℕ → ℕ) → ((l : ℕ) → f l < 2) → fromBits n f < 2 ^ n
 unfolding fromBits
 fromBits-lt zero f h = pow-pos 0
 fromBits-lt (suc n) f h =
     omega (arith, fromBits-lt n f h, mul-le-mul-right {m = f n} {n = 1} (2 ^ n) (omega (arith, h n)), pow-suc 2 n)
 
 -- a word rotated is a word
-pub rotl-lt : (n a : ℕ) → a < 2 ^ 32 → rotl n a < 2 ^ 32
+rotl-lt : (n a : ℕ) → a < 2 ^ 32 → rotl n a < 2 ^ 32
 unfolding rotl
 rotl-lt n a h =
     or-lt 32 (a * 2 ^ n % 2 ^ 32) (a / 2 ^ (32 - n)) (mod-lt (a * 2 ^ n) (pow-pos 32)) (lt-of-le-of-lt (shr-le a (32 - n)) h)
@@ -66,17 +66,7 @@ subWord-lt k a0 a1 a2 a3 = fromBits-lt 32 (λ l. bit k (S (crumb a0 a1 a2 a3 l))
 
 sub-words : (a : Block) → Words (subCrumbs a)
 unfolding subCrumbs subCrumb
-sub-words a =
-    record {
-      w0 = subWord-lt 0 (a .a0) (a .a1) (a .a2) (a .a3);
-      w1 = subWord-lt 1 (a .a0) (a .a1) (a .a2) (a .a3);
-      w2 = subWord-lt 2 (a .a0) (a .a1) (a .a2) (a .a3);
-      w3 = subWord-lt 3 (a .a0) (a .a1) (a .a2) (a .a3);
-      w4 = subWord-lt 3 (a .a5) (a .a6) (a .a7) (a .a4);
-      w5 = subWord-lt 0 (a .a5) (a .a6) (a .a7) (a .a4);
-      w6 = subWord-lt 1 (a .a5) (a .a6) (a .a7) (a .a4);
-      w7 = subWord-lt 2 (a .a5) (a .a6) (a .a7) (a .a4);
-    }
+sub-words a = search subWord-lt
 
 -- MixWord gives words from words
 mix-words : (x0 x4 : ℕ) → x0 < 2 ^ 32 → x4 < 2 ^ 32 → PairWords (mixWord x0 x4)
@@ -93,37 +83,20 @@ mix-words x0 x4 h0 h4 =
 mixed-words : (x : Block) → Words x → Words (mixWords x)
 unfolding mixWords
 mixed-words x h =
-    let y0 : PairWords (mixWord (x .a0) (x .a4)) = mix-words (x .a0) (x .a4) (h .w0) (h .w4) in
-    let y1 : PairWords (mixWord (x .a1) (x .a5)) = mix-words (x .a1) (x .a5) (h .w1) (h .w5) in
-    let y2 : PairWords (mixWord (x .a2) (x .a6)) = mix-words (x .a2) (x .a6) (h .w2) (h .w6) in
-    let y3 : PairWords (mixWord (x .a3) (x .a7)) = mix-words (x .a3) (x .a7) (h .w3) (h .w7) in
-    record {
-      w0 = y0 .left-word;
-      w1 = y1 .left-word;
-      w2 = y2 .left-word;
-      w3 = y3 .left-word;
-      w4 = y0 .right-word;
-      w5 = y1 .right-word;
-      w6 = y2 .right-word;
-      w7 = y3 .right-word;
-    }
+    omega (
+      arith,
+      mix-words (x .a0) (x .a4) (h .w0) (h .w4),
+      mix-words (x .a1) (x .a5) (h .w1) (h .w5),
+      mix-words (x .a2) (x .a6) (h .w2) (h .w6),
+      mix-words (x .a3) (x .a7) (h .w3) (h .w7),
+    )
 
 add-words : (c : Pair) (y : Block) → PairWords c → Words y → Words (addConstant c y)
 unfolding addConstant
-add-words c y k h =
-    record {
-      w0 = xor-lt 32 (y .a0) (c .left) (h .w0) (k .left-word);
-      w1 = h .w1;
-      w2 = h .w2;
-      w3 = h .w3;
-      w4 = xor-lt 32 (y .a4) (c .right) (h .w4) (k .right-word);
-      w5 = h .w5;
-      w6 = h .w6;
-      w7 = h .w7;
-    }
+add-words c y k h = omega (arith, xor-lt 32 (y .a0) (c .left) (h .w0) (k .left-word), xor-lt 32 (y .a4) (c .right) (h .w4) (k .right-word))
 
 -- a step with constants that are words gives words, from any block
-pub step-words : (c : Pair) (a : Block) → PairWords c → Words (step c a)
+step-words : (c : Pair) (a : Block) → PairWords c → Words (step c a)
 unfolding step
 step-words c a k = add-words c (mixWords (subCrumbs a)) k (mixed-words (subCrumbs a) (sub-words a))
 
@@ -144,7 +117,7 @@ steps-words c [] a k = step-words c a (k .0)
 steps-words c (d ∷ cs) a k = steps-words d cs (step c a) (k .1)
 
 -- Q_j gives words, from any block
-pub permute-words : (j : ℕ) (b : Block) → j < 5 → Words (permute j b)
+permute-words : (j : ℕ) (b : Block) → j < 5 → Words (permute j b)
 unfolding permute constants constantsFrom
 permute-words j b h = steps-words _ _ (tweak j b) (constants-words j h)
 

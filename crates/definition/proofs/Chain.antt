@@ -8,7 +8,7 @@ use native.Mathlib.Nat.{add-zero, mod-lt, mod-eq-of-lt, mod-add-mod}
 use native.Mathlib.Omega.{arith}
 use lib.ListN.{length, replicate}
 use lib.Pow.{pow-pos}
-use lib.Seq.{take-at}
+use lib.Seq.{take-at, length-take-le}
 use Rattle.definition.specs.declared.Block.{Block}
 use Rattle.definition.specs.declared.Counted.{Counted}
 use Rattle.definition.specs.declared.State.{State}
@@ -43,16 +43,12 @@ unfolding blocksIn
 blocks-of-state w h e = rw (five-filled h (omega (arith, count-le w))) (take-at h _ (blockCount w) e)
 
 pub length-blocksIn : (w : Width) (s : State) → length (blocksIn w s) ≡ blockCount w
-unfolding blockCount blocksIn five
-length-blocksIn W3 s = refl
-length-blocksIn W4 s = refl
-length-blocksIn W5 s = refl
+unfolding blocksIn five
+length-blocksIn w s = length-take-le (blockCount w) (five s) (count-le w)
 
 pub length-start : (w : Width) → length (start w) ≡ blockCount w
-unfolding blockCount start startingVariables
-length-start W3 = refl
-length-start W4 = refl
-length-start W5 = refl
+unfolding start startingVariables
+length-start w = length-take-le (blockCount w) startingVariables (count-le w)
 
 pub length-inject : (w : Width) (h : List Block) (m : Block) → length (inject w h m) ≡ blockCount w
 unfolding inject matrix blockCount
@@ -65,28 +61,25 @@ unfolding permuteFrom
 length-permuteFrom j [] = refl
 length-permuteFrom j (a ∷ h) = ap suc (length-permuteFrom (suc j) h)
 
-pub length-round : (w : Width) (h : List Block) (m : Block) → length (round w h m) ≡ blockCount w
+length-round : (w : Width) (h : List Block) (m : Block) → length (round w h m) ≡ blockCount w
 unfolding round
 length-round w h m = length-permuteFrom 0 (inject w h m) ∙ length-inject w h m
 
 pub blocks-of-inject : (w : Width) (h : List Block) (m : Block) → blocksIn w (stateOf (inject w h m)) ≡ inject w h m
 blocks-of-inject w h m = blocks-of-state w (inject w h m) (length-inject w h m)
 
-pub blocks-of-round : (w : Width) (h : List Block) (m : Block) → blocksIn w (stateOf (round w h m)) ≡ round w h m
+blocks-of-round : (w : Width) (h : List Block) (m : Block) → blocksIn w (stateOf (round w h m)) ≡ round w h m
 blocks-of-round w h m = blocks-of-state w (round w h m) (length-round w h m)
 
-pub blocks-of-used : (w : Width) (s : State) → blocksIn w (stateOf (blocksIn w s)) ≡ blocksIn w s
+blocks-of-used : (w : Width) (s : State) → blocksIn w (stateOf (blocksIn w s)) ≡ blocksIn w s
 blocks-of-used w s = blocks-of-state w (blocksIn w s) (length-blocksIn w s)
 
 -- the state after a chain of rounds with their count
 pub counted-state : (w : Width) (c : Counted) (ms : List Block)
     → countedChain w c ms .state ≡ stateOf (chain w (blocksIn w (c .state)) ms)
-unfolding countedChain chain
+unfolding countedChain countedRound chain
 counted-state w c [] = refl
-counted-state w c (m ∷ ms) = counted-state w (countedRound w c m) ms ∙ ap (λ (h : List Block). stateOf (chain w h ms)) after
-  where
-    after : blocksIn w (countedRound w c m .state) ≡ round w (blocksIn w (c .state)) m
-    after = unfold countedRound in blocks-of-round w (blocksIn w (c .state)) m
+counted-state w c (m ∷ ms) = rw (← blocks-of-round w (blocksIn w (c .state)) m) (counted-state w (countedRound w c m) ms)
 
 -- and its count: one for each message block
 pub counted-rounds : (w : Width) (c : Counted) (ms : List Block) → c .rounds < 2 ^ 64

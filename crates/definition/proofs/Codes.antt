@@ -1,10 +1,12 @@
 -- The tables of the codes, at codes that they don't name.
 -- Assumes nothing.
 use mathlib.Core.Path.{_≡_, refl}
+use mathlib.Core.List.{[], _∷_}
 use Prim.Native.Nat.{ℕ, zero, suc, _≤_}
 use native.Mathlib.Omega.{arith}
 use Rattle.definition.specs.declared.Width.the-variants.{W3}
 use Rattle.definition.specs.Luffa.{widthAt, wordsAt}
+use Rattle.definition.proofs.Every.{every-at}
 
 pub width-other : (code : ℕ) → (code ≡ 3 → ⊥) → (code ≡ 4 → ⊥) → widthAt code ≡ W3
 unfolding widthAt
@@ -27,9 +29,4 @@ words-other (suc (suc (suc (suc (suc n))))) a b c d = refl
 -- a digest has at most 16 words
 pub words-le : (code : ℕ) → wordsAt code ≤ 16
 unfolding wordsAt
-words-le zero = omega arith
-words-le (suc zero) = omega arith
-words-le (suc (suc zero)) = omega arith
-words-le (suc (suc (suc zero))) = omega arith
-words-le (suc (suc (suc (suc zero)))) = omega arith
-words-le (suc (suc (suc (suc (suc n))))) = omega arith
+words-le = every-at (λ n. n ≤ 16) (0 ∷ 7 ∷ 8 ∷ 12 ∷ 16 ∷ []) 0 (omega arith) (omega arith)

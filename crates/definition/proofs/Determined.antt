@@ -3,5 +3,9 @@
 -- Assumes nothing.
 use mathlib.Core.Path.{_≡_, sym, _∙_}
 
-pub determined : {A : Type 0} (outcome a b : A) → a ≡ outcome → b ≡ outcome → a ≡ b
+-- any two that are the outcome are equal
+abbrev pub Determined : {A : Type 0} → A → Type 0
+Determined {A} outcome = (a b : A) → a ≡ outcome → b ≡ outcome → a ≡ b
+
+pub determined : {A : Type 0} (outcome : A) → Determined outcome
 determined outcome a b p q = p ∙ sym q

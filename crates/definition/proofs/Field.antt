@@ -15,8 +15,8 @@ use Rattle.definition.specs.declared.Block.{Block}
 use Rattle.definition.specs.Word.{bit}
 use Rattle.definition.specs.Block.{_⊕_, zeroBlock, wordsOf}
 use Rattle.definition.specs.Field.{double, keep, timesTo, times}
-use Rattle.definition.proofs.Bits.{bit-lt, bit-xor}
-use Rattle.definition.proofs.Cases.{none, more, at-bits}
+use Rattle.definition.proofs.Bits.{bits-at, bit-xor}
+use Rattle.definition.proofs.Cases.{at-bits}
 use Rattle.definition.proofs.Xor.{⊕-zero, zero-⊕, ⊕-self, ⊕-swap, double-⊕}
 
 -- a polynomial as a number: the coefficients from that of x^0 on
@@ -54,16 +54,7 @@ pub double-element : (l : ℕ) (b : Block) → element l (double b) ≡ timesX (
 unfolding element double wordsOf right doubled polynomialOf timesX
 double-element l b =
     rw (bit-xor l (b .a0) (b .a7), bit-xor l (b .a2) (b .a7), bit-xor l (b .a3) (b .a7))
-    (eqb→eq _ _
-    (at-bits right tt
-    (more (bit-lt l (b .a0))
-    (more (bit-lt l (b .a1))
-    (more (bit-lt l (b .a2))
-    (more (bit-lt l (b .a3))
-    (more (bit-lt l (b .a4))
-    (more (bit-lt l (b .a5))
-    (more (bit-lt l (b .a6))
-    (more (bit-lt l (b .a7)) none))))))))))
+    (eqb→eq _ _ (at-bits right tt (bits-at l (wordsOf b))))
 
 -- 0 and 1 times a block
 keep-⊕ : (x y : ℕ) (b : Block) → x < 2 → y < 2 → keep (bitXor x y) b ≡ keep x b ⊕ keep y b

@@ -2,7 +2,7 @@
 -- Assumes nothing.
 use mathlib.Core.Path.{_≡_, refl, ap, _∙_}
 use mathlib.Core.List.{List, _++_}
-use Prim.Native.Nat.{ℕ, zero, suc, _+_, _-_, _*_, _/_, _%_, _<_, _≤_}
+use Prim.Native.Nat.{ℕ, zero, suc, _+_, _-_, _*_, _/_, _%_, _<_}
 use native.Mathlib.Decide.{decLt}
 use native.Mathlib.Omega.{arith}
 use lib.ListN.{length, getD, replicate, List·getD-append}
@@ -16,7 +16,7 @@ use Rattle.definition.specs.Round.{round, chain}
 use Rattle.definition.specs.Start.{blockCount}
 use Rattle.definition.specs.State.{five, blocksIn, stateOf}
 use Rattle.definition.specs.Final.{outputs, finalRounds, final}
-use Rattle.definition.proofs.Chain.{blocks-of-state, length-round}
+use Rattle.definition.proofs.Chain.{blocks-of-state, length-chain}
 
 -- n blank rounds
 unfoldable pub blank : Width → ℕ → List Block → List Block
@@ -32,43 +32,24 @@ unfolding final finalRounds
 length-final w n h =
     length-take-le n (outputs w ((n + 7) / 8) h) (omega (arith, length-outputs w ((n + 7) / 8) h))
 
--- the words of Z_0, and those after them
-first-words : (w : Width) (k : ℕ) (h : List Block) (ws : List ℕ) → k < 8
-    → getD (wordsOf (xorAll (round w h zeroBlock)) ++ ws) k 0 ≡ getD (wordsOf (xorAll (blank w (k / 8 + 1) h))) (k % 8) 0
-unfolding blank chain wordsOf
-first-words w k h ws e =
-    let q : k / 8 + 1 ≡ 1 = omega arith in
-    let r : k % 8 ≡ k = omega arith in
-    rw (q, r) (List·getD-append (wordsOf (xorAll (round w h zeroBlock))) ws 0 k e)
-
-blank-more : (w : Width) (n : ℕ) (h : List Block) → blank w (suc n) h ≡ blank w n (round w h zeroBlock)
-unfolding blank chain
-blank-more w n h = refl
-
-later-words : (w : Width) (k : ℕ) (h : List Block) (ws : List ℕ) → 8 ≤ k
-    → getD ws (k - 8) 0 ≡ getD (wordsOf (xorAll (blank w ((k - 8) / 8 + 1) (round w h zeroBlock)))) ((k - 8) % 8) 0
-    → getD (wordsOf (xorAll (round w h zeroBlock)) ++ ws) k 0 ≡ getD (wordsOf (xorAll (blank w (k / 8 + 1) h))) (k % 8) 0
-unfolding wordsOf
-later-words w k h ws e ih =
-    let q : k / 8 + 1 ≡ suc ((k - 8) / 8 + 1) = omega arith in
-    let r : k % 8 ≡ (k - 8) % 8 = omega arith in
-    let s : k ≡ 8 + (k - 8) = omega arith in
-    ap (λ (n : ℕ). getD (wordsOf (xorAll (round w h zeroBlock)) ++ ws) n 0) s
-    ∙ getD-append-add (wordsOf (xorAll (round w h zeroBlock))) ws (k - 8) 0
-    ∙ ih
-    ∙ rw (q, r, blank-more)
-
 pub output-at : (w : Width) (n k : ℕ) (h : List Block) → k < n * 8
     → getD (outputs w n h) k 0 ≡ getD (wordsOf (xorAll (blank w (k / 8 + 1) h))) (k % 8) 0
-unfolding outputs
+unfolding outputs blank chain wordsOf
 output-at w zero k h e = absurd (omega arith)
 output-at w (suc n) k h e =
     let h' : List Block = round w h zeroBlock in
-    let ih : k - 8 < n * 8 → getD (outputs w n h') (k - 8) 0 ≡ getD (wordsOf (xorAll (blank w ((k - 8) / 8 + 1) h'))) ((k - 8) % 8) 0 =
-    output-at w n (k - 8) h' in
+    let ws : List ℕ = wordsOf (xorAll h') in
     elim (decLt k 8) [
-      | yes p ↦ first-words w k h (outputs w n h') p
-      | no p ↦ later-words w k h (outputs w n h') (omega arith) (ih (omega arith))
+      | yes p ↦
+          let a : k / 8 + 1 ≡ 1 = omega arith in
+          let b : k % 8 ≡ k = omega arith in
+          rw (a, b) (List·getD-append ws (outputs w n h') 0 k p)
+      | no p ↦
+          let a : k / 8 + 1 ≡ suc ((k - 8) / 8 + 1) = omega arith in
+          let b : k % 8 ≡ (k - 8) % 8 = omega arith in
+          let c : k ≡ 8 + (k - 8) = omega arith in
+          rw (a, b) (ap (λ (i : ℕ). getD (ws ++ outputs w n h') i 0) c
+          ∙ getD-append-add ws (outputs w n h') (k - 8) 0 ∙ output-at w n (k - 8) h' (omega arith))
     ]
 
 -- the XOR of five blocks, those that w doesn't use zero, is that of the first w
@@ -83,6 +64,5 @@ xor-five w h e = rw (blocks-of-state w h e) at (xor-used w (stateOf h))
 
 -- blank rounds leave w blocks
 pub length-blank : (w : Width) (n : ℕ) (h : List Block) → length h ≡ blockCount w → length (blank w n h) ≡ blockCount w
-unfolding blank chain
-length-blank w zero h e = e
-length-blank w (suc n) h e = length-blank w n (round w h zeroBlock) (length-round w h zeroBlock)
+unfolding blank
+length-blank w n h e = length-chain w h (replicate n zeroBlock) e

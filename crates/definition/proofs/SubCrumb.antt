@@ -1,37 +1,37 @@
 -- Appendix D's instructions give SubCrumb: on registers of n bits an instruction works at each bit apart, and at one bit the checker
 -- computes all sixteen cases of S.
 -- Assumes nothing.
-use mathlib.Core.Path.{_≡_, refl, sym, ap, ap₂, _∙_}
+use mathlib.Core.Path.{_≡_, refl, sym, ap, _∙_}
 use mathlib.Core.Bool.{Bool}
 use mathlib.Core.List.{List, [], _∷_, _++_, map}
-use Prim.Native.Nat.{ℕ, zero, suc, _+_, _-_, _*_, _^_, _<_}
-use lib.Bits.{bitXor, bitAnd, bitOr, xor-lt, and-lt, or-lt}
+use Prim.Native.Nat.{ℕ, zero, suc, _+_, _*_, _^_, _<_}
+use lib.Bits.{xor-lt, and-lt, or-lt}
 use lib.Dec.{T, eqb, eqb→eq}
 use lib.ListN.{getD, set, List·getD-map}
 use lib.Pow.{ones-sub-lt, pow-pos}
 use Rattle.definition.specs.Word.{bit}
 use Rattle.definition.specs.SubCrumb.{S, crumb, subWord, subCrumb}
 use Rattle.definition.specs.AppendixD.{Instruction, MOV, OR, XOR, AND, NOT, table4, execute, run, results, appendixD}
-use Rattle.definition.proofs.Bits.{bit-lt, bit-zero, bit-xor, bit-and, bit-or, bit-not, from-its-bits}
-use Rattle.definition.proofs.Cases.{Bits, none, more, everyBits, at-bits}
+use Rattle.definition.proofs.Bits.{bits-at, bit-zero, bit-xor, bit-and, bit-or, bit-not, from-its-bits}
+use Rattle.definition.proofs.Cases.{everyBits, at-bits}
+use Rattle.definition.proofs.Every.{Every, every-at, every-set}
 
 -- each register holds a number of n bits
 abbrev Below : (n : ℕ) → List ℕ → Type 0
-Below n rs = (i : ℕ) → getD rs i 0 < 2 ^ n
+Below n = Every (λ a. a < 2 ^ n)
+
+below-at : (n : ℕ) (rs : List ℕ) → Below n rs → (i : ℕ) → getD rs i 0 < 2 ^ n
+below-at n rs = every-at (λ a. a < 2 ^ n) rs 0 (pow-pos n)
 
 below-set : (n : ℕ) (rs : List ℕ) (d a : ℕ) → Below n rs → a < 2 ^ n → Below n (set rs d a)
-below-set n [] d a h k i = h i
-below-set n (x ∷ rs) zero a h k zero = k
-below-set n (x ∷ rs) zero a h k (suc i) = h (suc i)
-below-set n (x ∷ rs) (suc d) a h k zero = h zero
-below-set n (x ∷ rs) (suc d) a h k (suc i) = below-set n rs d a (λ i. h (suc i)) k i
+below-set n rs d a h k = every-set (λ a. a < 2 ^ n) rs d a k h
 
 below-execute : (n : ℕ) (i : Instruction) (rs : List ℕ) → Below n rs → Below n (execute n i rs)
 unfolding execute
-below-execute n (MOV d s) rs h = below-set n rs d _ h (h s)
-below-execute n (OR d s) rs h = below-set n rs d _ h (or-lt n _ _ (h d) (h s))
-below-execute n (XOR d s) rs h = below-set n rs d _ h (xor-lt n _ _ (h d) (h s))
-below-execute n (AND d s) rs h = below-set n rs d _ h (and-lt n _ _ (h d) (h s))
+below-execute n (MOV d s) rs h = below-set n rs d _ h (below-at n rs h s)
+below-execute n (OR d s) rs h = below-set n rs d _ h (or-lt n _ _ (below-at n rs h d) (below-at n rs h s))
+below-execute n (XOR d s) rs h = below-set n rs d _ h (xor-lt n _ _ (below-at n rs h d) (below-at n rs h s))
+below-execute n (AND d s) rs h = below-set n rs d _ h (and-lt n _ _ (below-at n rs h d) (below-at n rs h s))
 below-execute n (NOT d) rs h = below-set n rs d _ h (ones-sub-lt n _)
 
 below-run : (n : ℕ) (is : List Instruction) (rs : List ℕ) → Below n rs → Below n (run n is rs)
@@ -51,19 +51,14 @@ module _ (n l : ℕ) (hl : l < n) where
 
   execute-bit : (i : Instruction) (rs : List ℕ) → Below n rs → map (bit l) (execute n i rs) ≡ execute 1 i (map (bit l) rs)
   unfolding execute
-  execute-bit (MOV d s) rs h = map-set (bit l) rs d _ ∙ ap (set (map (bit l) rs) d) (reg rs s)
-  execute-bit (OR d s) rs h =
-      map-set (bit l) rs d _ ∙ ap (set (map (bit l) rs) d) (bit-or l _ _ ∙ ap₂ bitOr (reg rs d) (reg rs s))
-  execute-bit (XOR d s) rs h =
-      map-set (bit l) rs d _ ∙ ap (set (map (bit l) rs) d) (bit-xor l _ _ ∙ ap₂ bitXor (reg rs d) (reg rs s))
-  execute-bit (AND d s) rs h =
-      map-set (bit l) rs d _ ∙ ap (set (map (bit l) rs) d) (bit-and l _ _ ∙ ap₂ bitAnd (reg rs d) (reg rs s))
-  execute-bit (NOT d) rs h =
-      map-set (bit l) rs d _
-      ∙ ap (set (map (bit l) rs) d) (bit-not n l _ hl (h d) ∙ ap (λ (x : ℕ). 2 ^ 1 - 1 - x) (reg rs d))
+  execute-bit (MOV d s) rs h = rw (map-set, reg rs s)
+  execute-bit (OR d s) rs h = rw (map-set, bit-or, reg rs d, reg rs s)
+  execute-bit (XOR d s) rs h = rw (map-set, bit-xor, reg rs d, reg rs s)
+  execute-bit (AND d s) rs h = rw (map-set, bit-and, reg rs d, reg rs s)
+  execute-bit (NOT d) rs h = rw (map-set, bit-not n l (getD rs d 0) hl (below-at n rs h d), reg rs d)
 
   -- a program on words works at each bit apart
-  pub run-bit : (is : List Instruction) (rs : List ℕ) → Below n rs → map (bit l) (run n is rs) ≡ run 1 is (map (bit l) rs)
+  run-bit : (is : List Instruction) (rs : List ℕ) → Below n rs → map (bit l) (run n is rs) ≡ run 1 is (map (bit l) rs)
   unfolding run
   run-bit [] rs h = refl
   run-bit (i ∷ is) rs h = run-bit is (execute n i rs) (below-execute n i rs h) ∙ ap (run 1 is) (execute-bit i rs h)
@@ -75,30 +70,24 @@ right register k bs =
     (bit k (S (getD bs 3 0 * 8 + getD bs 2 0 * 4 + getD bs 1 0 * 2 + getD bs 0 0)))
 
 module _ (a0 a1 a2 a3 : ℕ) (h0 : a0 < 2 ^ 32) (h1 : a1 < 2 ^ 32) (h2 : a2 < 2 ^ 32) (h3 : a3 < 2 ^ 32) where
-  loaded : Below 32 (a0 ∷ a1 ∷ a2 ∷ a3 ∷ 0 ∷ [])
-  loaded zero = h0
-  loaded (suc zero) = h1
-  loaded (suc (suc zero)) = h2
-  loaded (suc (suc (suc zero))) = h3
-  loaded (suc (suc (suc (suc zero)))) = pow-pos 32
-  loaded (suc (suc (suc (suc (suc i))))) = pow-pos 32
+  -- the registers as they are loaded, and after the program
+  abbrev registers : List ℕ
+  registers = a0 ∷ a1 ∷ a2 ∷ a3 ∷ 0 ∷ []
 
-  bits-at : (l : ℕ) → Bits 4 (bit l a0 ∷ bit l a1 ∷ bit l a2 ∷ bit l a3 ∷ [])
-  bits-at l = more (bit-lt l a0) (more (bit-lt l a1) (more (bit-lt l a2) (more (bit-lt l a3) none)))
+  abbrev after : List ℕ
+  after = run 32 table4 registers
+
+  loaded : Below 32 registers
+  loaded = (h0, (h1, (h2, (h3, (pow-pos 32, tt)))))
 
   -- a register's word is x_k, from the sixteen cases
-  word : (register k : ℕ) → T (everyBits 4 (right register k))
-      → getD (run 32 table4 (a0 ∷ a1 ∷ a2 ∷ a3 ∷ 0 ∷ [])) register 0 ≡ subWord k a0 a1 a2 a3
+  word : (register k : ℕ) → T (everyBits 4 (right register k)) → getD after register 0 ≡ subWord k a0 a1 a2 a3
   unfolding subWord crumb right
   word register k t =
-      from-its-bits 32 _ (λ l. bit k (S (crumb a0 a1 a2 a3 l)))
-      (below-run 32 table4 (a0 ∷ a1 ∷ a2 ∷ a3 ∷ 0 ∷ []) loaded register)
+      from-its-bits 32 _ (λ l. bit k (S (crumb a0 a1 a2 a3 l))) (below-at 32 after (below-run 32 table4 registers loaded) register)
       (λ l hl.
-      reg 32 l hl (run 32 table4 (a0 ∷ a1 ∷ a2 ∷ a3 ∷ 0 ∷ [])) register
-      ∙ ap (λ (rs : List ℕ). getD rs register 0)
-      (run-bit 32 l hl table4 (a0 ∷ a1 ∷ a2 ∷ a3 ∷ 0 ∷ []) loaded
-      ∙ ap (λ (z : ℕ). run 1 table4 (bit l a0 ∷ bit l a1 ∷ bit l a2 ∷ bit l a3 ∷ z ∷ [])) (bit-zero l))
-      ∙ eqb→eq _ _ (at-bits (right register k) t (bits-at l)))
+      rw (reg 32 l hl after register, run-bit 32 l hl table4 registers loaded, bit-zero l)
+      (eqb→eq _ _ (at-bits (right register k) t (bits-at l (a0 ∷ a1 ∷ a2 ∷ a3 ∷ [])))))
 
   -- Appendix D's instructions, read left to right and line by line, give SubCrumb
   pub instructions : appendixD a0 a1 a2 a3 ≡ subCrumb a0 a1 a2 a3

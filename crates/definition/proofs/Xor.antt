@@ -1,6 +1,6 @@
 -- XOR of blocks is a commutative group in which each block is its own inverse, and doubling distributes over it: for all blocks.
 -- Assumes nothing.
-use mathlib.Core.Path.{_≡_, refl, sym, ap, ap₂, _∙_}
+use mathlib.Core.Path.{_≡_, refl, sym, ap₂, _∙_}
 use Prim.Native.Nat.{ℕ, _+_, _*_, _/_, _%_, _<_}
 use native.Mathlib.Nat.{mod-lt, zero-lt-suc, div-add-mod'}
 use lib.Arith.{bin-ind}
@@ -24,18 +24,15 @@ unfolding associates
 digit a b c =
     let two : 0 < 2 = zero-lt-suc 1 in
     let d : (x : ℕ) → x % 2 < 2 = λ x. mod-lt x two in
-    xor-mod (bitXor a b) c 1 ∙ ap (λ (x : ℕ). bitXor x (c % 2)) (xor-mod a b 1)
-    ∙ eqb→eq _ _ (at-bits associates tt (more (d a) (more (d b) (more (d c) none))))
-    ∙ ap (bitXor (a % 2)) (sym (xor-mod b c 1)) ∙ sym (xor-mod a (bitXor b c) 1)
+    rw (xor-mod (bitXor a b) c 1, xor-mod a b 1, xor-mod a (bitXor b c) 1, xor-mod b c 1)
+    (eqb→eq _ _ (at-bits associates tt (more (d a) (more (d b) (more (d c) none)))))
 
 halves : (n b c : ℕ) → bitXor (bitXor (n / 2) (b / 2)) (c / 2) ≡ bitXor (n / 2) (bitXor (b / 2) (c / 2))
     → bitXor (bitXor n b) c / 2 ≡ bitXor n (bitXor b c) / 2
 halves n b c ih =
-    xor-shr (bitXor n b) c 1 ∙ ap (λ (x : ℕ). bitXor x (c / 2)) (xor-shr n b 1)
-    ∙ ih
-    ∙ ap (bitXor (n / 2)) (sym (xor-shr b c 1)) ∙ sym (xor-shr n (bitXor b c) 1)
+    rw (xor-shr (bitXor n b) c 1, xor-shr n b 1, xor-shr n (bitXor b c) 1, xor-shr b c 1) ih
 
-pub word-assoc : (a b c : ℕ) → bitXor (bitXor a b) c ≡ bitXor a (bitXor b c)
+word-assoc : (a b c : ℕ) → bitXor (bitXor a b) c ≡ bitXor a (bitXor b c)
 word-assoc =
     bin-ind (λ (n : ℕ). (b c : ℕ) → bitXor (bitXor n b) c ≡ bitXor n (bitXor b c)) (λ b c. refl)
     (λ n ih b c.
@@ -43,11 +40,9 @@ word-assoc =
     ∙ ap₂ (λ (x y : ℕ). x * 2 + y) (halves n b c (ih (b / 2) (c / 2))) (digit n b c)
     ∙ div-add-mod' (bitXor n (bitXor b c)) 2)
 
-pub word-swap : (a b c d : ℕ) → bitXor (bitXor a b) (bitXor c d) ≡ bitXor (bitXor a c) (bitXor b d)
+word-swap : (a b c d : ℕ) → bitXor (bitXor a b) (bitXor c d) ≡ bitXor (bitXor a c) (bitXor b d)
 word-swap a b c d =
-    word-assoc a b (bitXor c d)
-    ∙ ap (bitXor a) (sym (word-assoc b c d) ∙ ap (λ (x : ℕ). bitXor x d) (xor-comm b c) ∙ word-assoc c b d)
-    ∙ sym (word-assoc a c (bitXor b d))
+    cc (word-assoc a b (bitXor c d), word-assoc b c d, xor-comm b c, word-assoc c b d, word-assoc a c (bitXor b d))
 
 -- a function of words at each word of three blocks, and a law of words at each word
 onWords : (ℕ → ℕ → ℕ → ℕ) → Block → Block → Block → Block
@@ -87,9 +82,7 @@ unfolding _⊕_ onWords
 
 pub ⊕-swap : (a b c d : Block) → (a ⊕ b) ⊕ (c ⊕ d) ≡ (a ⊕ c) ⊕ (b ⊕ d)
 ⊕-swap a b c d =
-    ⊕-assoc a b (c ⊕ d)
-    ∙ ap (λ (x : Block). a ⊕ x) (sym (⊕-assoc b c d) ∙ ap (λ (x : Block). x ⊕ d) (⊕-comm b c) ∙ ⊕-assoc c b d)
-    ∙ sym (⊕-assoc a c (b ⊕ d))
+    cc (⊕-assoc a b (c ⊕ d), ⊕-assoc b c d, ⊕-comm b c, ⊕-assoc c b d, ⊕-assoc a c (b ⊕ d))
 
 pub double-⊕ : (a b : Block) → double (a ⊕ b) ≡ double a ⊕ double b
 unfolding _⊕_ double

@@ -24,17 +24,7 @@ use Rattle.hash_definition.proofs.WorkingDemand2.{done, lent-feed-done,
 -- the blocks read from bytes are words
 block-words : (x : List ℕ) → ((i : ℕ) → getD x i 0 < 256) → Words (blockOf x)
 unfolding blockOf
-block-words x h =
-    record {
-      w0 = word-lt x 0 h;
-      w1 = word-lt x 1 h;
-      w2 = word-lt x 2 h;
-      w3 = word-lt x 3 h;
-      w4 = word-lt x 4 h;
-      w5 = word-lt x 5 h;
-      w6 = word-lt x 6 h;
-      w7 = word-lt x 7 h;
-    }
+block-words x h = search word-lt
 
 decoded-words : (r : List ℕ) → ((i : ℕ) → getD r i 0 < 256) → AllWords (five (decode r .state))
 unfolding decode five blockIn

@@ -49,8 +49,7 @@ pub save-rounds : (w : World) (c : Call) → Rounds (call w c .answer) (roundsOf
 unfolding acceptedWith
 save-rounds w c =
     rw (call-is w c)
-    (rounds-of (refusalsOf w c (staleOf w c)) (w .n) (checkOf w) (w .sheet) (w .marks) (outOf c) (acceptedOf w c) (roundsOf w c)
-    (checkRounds (w .code) (w .n)) refl
+    (rounds-of _ _ _ _ _ _ (acceptedOf w c) (roundsOf w c) (checkRounds (w .code) (w .n)) refl
     (λ e. work (valid w c (staleOf w c) e))
     (λ e. check-rounds w (valid w c false (stale-number w c (staleOf w c) .stale .0 e .0) .sheet-room)))
   where
@@ -64,11 +63,9 @@ save-rounds w c =
           check-and-work w c,
         )
 
-pub save-number : (w : World) (c : Call) → call w c .answer .number ≡ firstOf (refusalsOf w c (staleOf w c))
+save-number : (w : World) (c : Call) → call w c .answer .number ≡ firstOf (refusalsOf w c (staleOf w c))
 unfolding acceptedWith
-save-number w c =
-    rw (call-is w c)
-    (number-of _ _ _ _ _ _ (acceptedOf w c) refl)
+save-number w c = rw (call-is w c) (number-of _ _ _ _ _ _ (acceptedOf w c) refl)
 
 -- a number before 11 is given exactly when its condition holds and none ranked before it does, whatever the claim and the marks
 pub save-given : (w : World) (c : Call) (k : ℕ) → suc k < STALE → (call w c .answer .number ≡ suc k) ↔ First (suc k) (refusalsOf w c false)
@@ -110,9 +107,7 @@ accepted-first w c e s =
 pub save-refused : (w : World) (c : Call) → (call w c .answer .number ≡ 0 → ⊥)
     → Untouched (w .n) (w .sheet) (w .marks) (outOf c) (call w c)
 unfolding acceptedWith
-save-refused w c =
-    rw (call-is w c)
-    (refused-untouched _ _ _ _ _ _ (acceptedOf w c) refl)
+save-refused w c = rw (call-is w c) (refused-untouched _ _ _ _ _ _ (acceptedOf w c) refl)
 
 -- from true marks, a claim is fresh exactly when it is Luffa of the sheet found
 fresh-claim : (w : World) (c : Call) → TrueMarks (w .code) (w .n) (w .sheet) (w .marks) → 40 * w .n ≤ length (w .sheet)

@@ -1,7 +1,7 @@
 -- Every save from true marks leaves true marks, hands out Luffa of the sheet it leaves, and answers 11 exactly at a claim that isn't Luffa of the
 -- sheet it found; the bytes, words and rounds are those that document 01 names: one law for change, append and drop.
 -- Assumes nothing.
-use mathlib.Core.Path.{_≡_, refl, sym, ap, _∙_}
+use mathlib.Core.Path.{_≡_, refl, ap, _∙_}
 use mathlib.Core.Bool.{Bool, false, not}
 use mathlib.Core.List.{List, [], _∷_}
 use Prim.Native.Nat.{ℕ, suc, _+_, _-_, _*_, _<_, _≤_}
@@ -12,7 +12,6 @@ use lib.Dec.{eqb}
 use lib.ListN.{length, take, drop, replicate, length-replicate}
 use lib.Seq.{take-take}
 use borrow.Author.Tests.{ltb-false, leb-false, eqb-true, eqb-false, eq-eqb, ne-eqb, not-false}
-use Rattle.definition.specs.declared.Width.{Width}
 use Rattle.definition.specs.Round.{chain}
 use Rattle.definition.specs.Padding.{blocks}
 use Rattle.definition.specs.Start.{start}
@@ -20,7 +19,7 @@ use Rattle.definition.specs.Luffa.{widthAt, bytesAt, luffa}
 use Rattle.definition.specs.Buffer.{overwriteAt, overwrite}
 use Rattle.definition.specs.Refusal.{firstOf}
 use Rattle.sheet_definition.specs.Sheet.{q, r, zeroed, sizeRefusal, claimRefusal, changeRefusals, appendRefusals, dropRefusals}
-use Rattle.sheet_definition.specs.Marks.{Worked, held, markAt, stateFrom, markOf, worked, TrueMark, TrueMarks}
+use Rattle.sheet_definition.specs.Marks.{Worked, held, markAt, markOf, worked, TrueMark, TrueMarks}
 use Rattle.sheet_definition.specs.SheetCalls.{SheetOutcome, refusedWith, acceptedWith, sheetOutcome, checked, stale, zeroMarks, changeOutcome, appendOutcome, dropOutcome}
 use Rattle.sheet_definition.specs.Run.{World, Call, call, claimOf, outOf, placeOf, countOf, refusalsOf}
 use Rattle.sheet_definition.specs.Run.Call.{Change, Append, Drop}
@@ -35,10 +34,13 @@ true-still : (code m k : ℕ) (sheet' sheet marks' marks : List ℕ) → take (1
     → markAt marks' k ≡ markAt marks k → TrueMark code sheet marks k → TrueMark code sheet' marks' k
 unfolding TrueMark
 true-still code m k sheet' sheet marks' marks e h a t =
-    let w : Width = widthAt code in
-    let b : take (160 * k) sheet ≡ take (160 * k) sheet' =
-    sym (take-take (160 * k) (160 * m) sheet (omega arith)) ∙ ap (take (160 * k)) (sym e) ∙ take-take (160 * k) (160 * m) sheet' (omega arith) in
-    ap (stateFrom w) a ∙ t ∙ ap (λ (x : List ℕ). chain w (start w) (blocks x)) b
+    rw (
+      a,
+      t,
+      ← take-take (160 * k) (160 * m) sheet (omega arith),
+      ← e,
+      take-take (160 * k) (160 * m) sheet' (omega arith),
+    )
 
 -- the marks from a number on as they are written: the state after the groups before each, unused blocks zero
 abbrev pub Written : (code n from : ℕ) → (sheet marks : List ℕ) → Type 0
@@ -144,8 +146,7 @@ pub by-answer : (w : World) (c : Call) (P : SheetOutcome → Type 0) → (Valid 
     → P (call w c)
 by-answer w c P a b =
     rw (call-is w c)
-    (by-number (refusalsOf w c (staleOf w c)) (w .n) (checkOf w) (w .sheet) (w .marks) (outOf c) (acceptedOf w c) P
-    (λ e. a (valid w c (staleOf w c) e)) (λ k e. b k))
+    (by-number _ _ _ _ _ _ (acceptedOf w c) P (λ e. a (valid w c (staleOf w c) e)) (λ k e. b k))
 
 -- a drop zeroes no mark but mark q when r = 0
 pub zero-one : (n : ℕ) → r n ≡ 0 → zeroed n ≡ q n ∷ []
