@@ -16,7 +16,7 @@ use Rattle.definition.specs.Block.{zeroBlock, wordsOf, wordsOfAll}
 use Rattle.definition.specs.SubCrumb.{S, crumb, subWord, subCrumb}
 use Rattle.definition.specs.MixWord.{mixWord}
 use Rattle.definition.specs.Constant.{constantsFrom, constants}
-use Rattle.definition.specs.Permutation.{subCrumbs, mixWords, addConstant, step, steps, tweak, permute}
+use Rattle.definition.specs.Permutation.{subCrumbs, mixWords, addConstant, step, steps, permute}
 use Rattle.definition.specs.Injection.{inject}
 use Rattle.definition.specs.Round.{permuteFrom, round, chain}
 use Rattle.definition.specs.Start.{blockCount, startingVariables, start}
@@ -119,7 +119,7 @@ steps-words c (d ∷ cs) a k = steps-words d cs (step c a) (k .1)
 -- Q_j gives words, from any block
 permute-words : (j : ℕ) (b : Block) → j < 5 → Words (permute j b)
 unfolding permute constants constantsFrom
-permute-words j b h = steps-words _ _ (tweak j b) (constants-words j h)
+permute-words j b h = steps-words _ _ _ (constants-words j h)
 
 permuted-words : (j : ℕ) (xs : List Block) → j + length xs ≤ 5 → AllWords (permuteFrom j xs)
 unfolding permuteFrom

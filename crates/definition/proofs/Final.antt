@@ -25,7 +25,7 @@ blank w n h = chain w h (replicate n zeroBlock)
 pub length-outputs : (w : Width) (n : ℕ) (h : List Block) → length (outputs w n h) ≡ n * 8
 unfolding outputs wordsOf
 length-outputs w zero h = refl
-length-outputs w (suc n) h = omega (arith, length-outputs w n (round w h zeroBlock))
+length-outputs w (suc n) h = simp (length-outputs w n) (omega arith)
 
 pub length-final : (w : Width) (n : ℕ) (h : List Block) → length (final w n h) ≡ n
 unfolding final finalRounds
