@@ -1,6 +1,6 @@
 -- Writing into a buffer piece by piece.
 -- Assumes nothing.
-use mathlib.Core.Path.{_≡_, refl, ap, _∙_}
+use mathlib.Core.Path.{_≡_, refl}
 use mathlib.Core.List.{List, [], _++_, append-assoc, append-nil}
 use Prim.Native.Nat.{ℕ, _+_, _-_, _≤_}
 use native.Mathlib.Nat.{add-assoc, add-zero, zero-add}
@@ -20,7 +20,7 @@ unfolding overwriteAt
 overwriteAt-more i j p v l h e =
     let q : List ℕ = take i l ++ p in
     let x : List ℕ = drop (i + length p) l in
-    let n : length q ≡ j = length-append (take i l) p ∙ ap (λ (k : ℕ). k + length p) (length-take-le i l h) ∙ e in
+    let n : length q ≡ j = omega (arith, length-append (take i l) p, length-take-le i l h) in
     let d : drop (j + length v) (q ++ x) ≡ drop (i + length (p ++ v)) l =
     rw (← n, drop-append-add q x (length v), drop-drop, length-append p v, add-assoc) in
     rw (take-at q x j n, d, append-assoc (take i l) p v)

@@ -1,7 +1,7 @@
 -- A rule over a few bits, or over the numbers below a bound, proved by one test that antt computes over all cases; and an equation of
 -- lists by a test.
 -- Assumes nothing.
-use mathlib.Core.Path.{_≡_, refl, ap₂}
+use mathlib.Core.Path.{_≡_, refl}
 use mathlib.Core.Bool.{Bool, true, _&&_}
 use mathlib.Core.List.{List, [], _∷_}
 use Prim.Native.Nat.{ℕ, zero, suc, _<_}
@@ -45,5 +45,4 @@ same→eq [] [] t = refl
 same→eq [] (y ∷ ys) t = absurd t
 same→eq (x ∷ xs) [] t = absurd t
 same→eq (x ∷ xs) (y ∷ ys) t =
-    ap₂ (λ (z : ℕ) (zs : List ℕ). z ∷ zs) (eqb→eq x y (both-left (eqb x y) (same xs ys) t))
-    (same→eq xs ys (both-right (eqb x y) (same xs ys) t))
+    rw (eqb→eq x y (both-left (eqb x y) (same xs ys) t), same→eq xs ys (both-right (eqb x y) (same xs ys) t))

@@ -4,7 +4,7 @@
 use mathlib.Core.Path.{_≡_, refl, sym, ap, _∙_}
 use mathlib.Core.List.{List, [], _∷_, _++_}
 use Prim.Native.Nat.{ℕ, suc, _+_, _-_, _%_, _^_, _<_, _≤_}
-use native.Mathlib.Nat.{add-zero, mod-lt, mod-eq-of-lt, mod-add-mod}
+use native.Mathlib.Nat.{add-zero, mod-lt, mod-eq-of-lt}
 use native.Mathlib.Omega.{arith}
 use lib.ListN.{length, replicate}
 use lib.Pow.{pow-pos}
@@ -87,9 +87,7 @@ pub counted-rounds : (w : Width) (c : Counted) (ms : List Block) → c .rounds <
 unfolding countedChain countedRound
 counted-rounds w c [] h = sym (rw add-zero (mod-eq-of-lt h))
 counted-rounds w c (m ∷ ms) h =
-    counted-rounds w (countedRound w c m) ms (mod-lt (c .rounds + 1) (pow-pos 64))
-    ∙ mod-add-mod (c .rounds + 1) (2 ^ 64) (length ms)
-    ∙ ap (λ (n : ℕ). n % 2 ^ 64) (omega arith)
+    omega (arith, counted-rounds w (countedRound w c m) ms (mod-lt (c .rounds + 1) (pow-pos 64)))
 
 -- one round leaves the blocks that w doesn't use zero
 pub counted-once : (w : Width) (c : Counted) (m : Block) → countedChain w c (m ∷ []) ≡ countedRound w c m

@@ -1,7 +1,7 @@
 -- The blocks are the ring GF(2^8)^32: doubling is multiplication by x modulo x^8 + x^4 + x^3 + x + 1 at each of the 32 bit positions, and a
 -- block times a constant is linear in both.
 -- Assumes nothing.
-use mathlib.Core.Path.{_≡_, refl, sym, ap, ap₂, _∙_}
+use mathlib.Core.Path.{_≡_, refl, sym, ap, _∙_}
 use mathlib.Core.Bool.{Bool}
 use mathlib.Core.List.{List, [], _∷_, map}
 use Prim.Native.Nat.{ℕ, zero, suc, _+_, _*_, _/_, _%_, _^_, _<_}
@@ -76,16 +76,14 @@ unfolding timesTo
 timesTo-xor zero c d b = sym (zero-⊕ zeroBlock)
 timesTo-xor (suc n) c d b =
     let two : 0 < 2 = zero-lt-suc 1 in
-    ap₂ (λ (x y : ℕ). keep x b ⊕ timesTo n y (double b)) (xor-mod c d 1) (xor-shr c d 1)
-    ∙ ap₂ _⊕_ (keep-⊕ (c % 2) (d % 2) b (mod-lt c two) (mod-lt d two)) (timesTo-xor n (c / 2) (d / 2) (double b))
-    ∙ ⊕-swap (keep (c % 2) b) (keep (d % 2) b) (timesTo n (c / 2) (double b)) (timesTo n (d / 2) (double b))
+    rw (xor-mod c d 1, xor-shr c d 1, keep-⊕ (c % 2) (d % 2) b (mod-lt c two) (mod-lt d two), timesTo-xor n (c / 2) (d / 2) (double b))
+    (⊕-swap (keep (c % 2) b) (keep (d % 2) b) (timesTo n (c / 2) (double b)) (timesTo n (d / 2) (double b)))
 
 timesTo-double : (n c : ℕ) (b : Block) → timesTo n c (double b) ≡ double (timesTo n c b)
 unfolding timesTo
 timesTo-double zero c b = unfold double in refl
 timesTo-double (suc n) c b =
-    ap₂ _⊕_ (keep-double (c % 2) b) (timesTo-double n (c / 2) (double b))
-    ∙ sym (double-⊕ (keep (c % 2) b) (timesTo n (c / 2) (double b)))
+    rw (keep-double (c % 2) b, timesTo-double n (c / 2) (double b), double-⊕ (keep (c % 2) b) (timesTo n (c / 2) (double b)))
 
 -- a constant of n bits has no coefficient past them
 timesTo-zero : (n : ℕ) (b : Block) → timesTo n 0 b ≡ zeroBlock
@@ -97,7 +95,7 @@ timesTo-more : (n c : ℕ) (b : Block) → c < 2 ^ n → timesTo (suc n) c b ≡
 unfolding timesTo
 timesTo-more zero c b h = ap (λ (x : ℕ). timesTo 1 x b) (lt-one h) ∙ timesTo-zero 1 b
 timesTo-more (suc n) c b h =
-    ap (λ (x : Block). keep (c % 2) b ⊕ x) (timesTo-more n (c / 2) (double b) (div-lt-iff-lt-mul (zero-lt-suc 1) .1 (rw pow-suc at h)))
+    rw (timesTo-more n (c / 2) (double b) (div-lt-iff-lt-mul (zero-lt-suc 1) .1 (rw pow-suc at h)))
 
 -- a block times a constant: the constants 0 and 1, a sum of constants, and a constant times x that stays below x^8
 pub times-zero : (b : Block) → times 0 b ≡ zeroBlock
@@ -115,8 +113,7 @@ times-xor = timesTo-xor 8
 timesTo-even : (n c : ℕ) (b : Block) → timesTo (suc n) (c * 2) b ≡ timesTo n c (double b)
 unfolding timesTo keep
 timesTo-even n c b =
-    ap₂ (λ (x y : ℕ). keep x b ⊕ timesTo n y (double b)) (mul-mod-left c 2) (mul-div-cancel c (zero-lt-suc 1))
-    ∙ zero-⊕ (timesTo n c (double b))
+    rw (mul-mod-left c 2, mul-div-cancel c (zero-lt-suc 1)) (zero-⊕ (timesTo n c (double b)))
 
 pub times-twice : (c : ℕ) (b : Block) → c < 2 ^ 7 → times (c * 2) b ≡ double (times c b)
 unfolding times

@@ -67,8 +67,7 @@ rowOf-xor : (f g : ℕ → ℕ) (bs : List Block) → rowOf (λ k. bitXor (f k) 
 unfolding rowOf row table
 rowOf-xor f g [] = sym (zero-⊕ zeroBlock)
 rowOf-xor f g (b ∷ bs) =
-    ap₂ _⊕_ (times-xor (f 0) (g 0) b) (rowOf-xor (λ k. f (suc k)) (λ k. g (suc k)) bs)
-    ∙ ⊕-swap (times (f 0) b) (times (g 0) b) (rowOf (λ k. f (suc k)) bs) (rowOf (λ k. g (suc k)) bs)
+    rw (times-xor (f 0) (g 0) b, rowOf-xor (λ k. f (suc k)) (λ k. g (suc k)) bs) (⊕-swap (times (f 0) b) (times (g 0) b) _ _)
 
 rowOf-twice : (f : ℕ → ℕ) (bs : List Block) → T (small (table (length bs) f)) → rowOf (λ k. f k * 2) bs ≡ double (rowOf f bs)
 unfolding rowOf row table small double
@@ -98,8 +97,7 @@ readings : (es : List Form) (bs : List Block) → T (allInField (length bs) es)
 unfolding allInField rowOf
 readings [] bs t = refl
 readings (e ∷ es) bs t =
-    ap₂ (λ (x : Block) (xs : List Block). x ∷ xs) (reading e bs (both-left (inField (length bs) e) _ t))
-    (readings es bs (both-right (inField (length bs) e) _ t))
+    rw (reading e bs (both-left (inField (length bs) e) _ t), readings es bs (both-right (inField (length bs) e) _ t))
 
 -- what the checker computes at each w: the coefficients of Appendix E's forms are the matrix, and none reaches x^8
 compared : (w : Width) → map (λ e. table (suc (blockCount w)) (coefficient e)) (forms w) ≡ matrix w

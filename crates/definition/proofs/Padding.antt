@@ -1,6 +1,6 @@
 -- A string of bytes as blocks: block by block, over two strings, and padded.
 -- Assumes nothing.
-use mathlib.Core.Path.{_≡_, refl, ap, _∙_}
+use mathlib.Core.Path.{_≡_, refl}
 use mathlib.Core.List.{List, [], _∷_, _++_}
 use Prim.Native.Nat.{ℕ, zero, suc, _+_, _-_, _*_, _/_, _%_, _<_, _≤_}
 use native.Mathlib.Nat.{zero-add, suc-add}
@@ -49,12 +49,10 @@ pub blocks-cons : (x : List ℕ) → 32 ≤ length x → blocks x ≡ blockOf x 
 unfolding blocks blocksTo
 blocks-cons x h =
     let e : length x / 32 ≡ suc (length (drop 32 x) / 32) = omega (arith, length-drop 32 x) in
-    ap (λ (n : ℕ). blocksTo n x) e
+    rw e
 
 pub blocks-one : (x : List ℕ) → length x ≡ 32 → blocks x ≡ blockOf x ∷ []
-blocks-one x e =
-    blocks-cons x (omega arith)
-    ∙ ap (λ (bs : List Block). blockOf x ∷ bs) (blocks-none (drop 32 x) (omega (arith, length-drop 32 x)))
+blocks-one x e = rw (blocks-cons x (omega arith), blocks-none (drop 32 x) (omega (arith, length-drop 32 x)))
 
 -- the first n blocks and the next m
 blocks-add : (n m : ℕ) (x : List ℕ) → blocksTo (n + m) x ≡ blocksTo n x ++ blocksTo m (drop (n * 32) x)
@@ -97,12 +95,13 @@ rest-feed x y =
     omega (arith, length-append x y, length-append (drop n x) y, length-drop n x) in
     rw (e, ← drop-drop _ n (x ++ y), drop-append-le n x y h)
 
--- n full blocks, and what comes after them
+-- nothing waits after n full blocks, which come before what follows them
+pub rest-whole : (n : ℕ) (x : List ℕ) → length x ≡ n * 32 → rest x ≡ []
+unfolding rest
+rest-whole n x e = drop-of-length-le x {i = length x / 32 * 32} (omega arith)
+
 pub blocks-append : (n : ℕ) (x y : List ℕ) → length x ≡ n * 32 → blocks (x ++ y) ≡ blocks x ++ blocks y
-blocks-append n x y e = rw none at (blocks-feed x y)
-  where
-    none : rest x ≡ []
-    none = unfold rest in drop-of-length-le x {i = length x / 32 * 32} (omega arith)
+blocks-append n x y e = rw (rest-whole n x e) at (blocks-feed x y)
 
 pub length-padding : (last n : ℕ) → length (padding last n) ≡ 32 - n % 32
 unfolding padding

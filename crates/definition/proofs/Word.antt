@@ -1,6 +1,6 @@
 -- Four bytes and a word are each other's reading; and the bytes of a list of words.
 -- Assumes nothing.
-use mathlib.Core.Path.{_≡_, refl, ap, _∙_}
+use mathlib.Core.Path.{_≡_, refl}
 use mathlib.Core.List.{List, [], _∷_, _++_, append-assoc, append-nil}
 use Prim.Native.Nat.{ℕ, _+_, _*_, _/_, _%_, _^_, _<_}
 use native.Mathlib.Nat.{div-add-mod', mod-eq-of-lt}
@@ -41,4 +41,5 @@ bytes-append (a ∷ vs) ws = rw (bytes-append vs ws, append-assoc (bytesOf a) (b
 
 -- and of one word more
 pub bytes-snoc : (ws : List ℕ) (a : ℕ) → bytesOfAll (ws ++ a ∷ []) ≡ bytesOfAll ws ++ bytesOf a
-bytes-snoc ws a = bytes-append ws (a ∷ []) ∙ unfold bytesOfAll in ap (λ (l : List ℕ). bytesOfAll ws ++ l) (append-nil (bytesOf a))
+unfolding bytesOfAll
+bytes-snoc ws a = rw (bytes-append ws (a ∷ []), append-nil (bytesOf a))

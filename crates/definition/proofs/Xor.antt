@@ -87,13 +87,8 @@ pub ⊕-swap : (a b c d : Block) → (a ⊕ b) ⊕ (c ⊕ d) ≡ (a ⊕ c) ⊕ (
 pub double-⊕ : (a b : Block) → double (a ⊕ b) ≡ double a ⊕ double b
 unfolding _⊕_ double
 double-⊕ a b =
-    λ i. record {
-      a0 = bitXor (a .a7) (b .a7);
-      a1 = word-swap (a .a0) (b .a0) (a .a7) (b .a7) i;
-      a2 = bitXor (a .a1) (b .a1);
-      a3 = word-swap (a .a2) (b .a2) (a .a7) (b .a7) i;
-      a4 = word-swap (a .a3) (b .a3) (a .a7) (b .a7) i;
-      a5 = bitXor (a .a4) (b .a4);
-      a6 = bitXor (a .a5) (b .a5);
-      a7 = bitXor (a .a6) (b .a6);
-    }
+    rw (
+      word-swap (a .a0) (b .a0) (a .a7) (b .a7),
+      word-swap (a .a2) (b .a2) (a .a7) (b .a7),
+      word-swap (a .a3) (b .a3) (a .a7) (b .a7),
+    )

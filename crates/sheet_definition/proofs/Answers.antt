@@ -162,9 +162,8 @@ unfolding acceptedWith placeOf countOf recordOf outOf
 restores w n sheet place claim out t m l f b e =
     let c : Call = Change place (take 40 (drop (40 * place) sheet)) claim out in
     let a : Valid w c × (call w c ≡ acceptedOf w c) = accepted-is w c e in
-    let s : call w c .sheet ≡ sheet =
-    ap (λ (o : SheetOutcome). o .sheet) (a .1) ∙ put-back (40 * place) 40 (w .sheet) sheet (omega arith) f b in
-    let k : call w c .answer .count ≡ n = ap (λ (o : SheetOutcome). o .answer .count) (a .1) ∙ m in
+    let s : call w c .sheet ≡ sheet = rw (a .1) (put-back (40 * place) 40 (w .sheet) sheet (omega arith) f b) in
+    let k : call w c .answer .count ≡ n = rw (a .1) m in
     record {
       sheet-again = s;
       digest-again =
@@ -186,6 +185,6 @@ pub change-back : (w : World) (place : ℕ) (x claim out claim' out' : List ℕ)
 unfolding acceptedWith next left placeOf countOf
 change-back w place x claim out claim' out' t e e' =
     let c : Call = Change place x claim out in
-    let n : call w c .answer .count ≡ w .n = ap (λ (o : SheetOutcome). o .answer .count) (accepted-is w c e .1) in
+    let n : call w c .answer .count ≡ w .n = rw (accepted-is w c e .1) in
     let k : Kept w c (call w c) = save-kept w c in
     restores (next w c) (w .n) (w .sheet) place claim' out' (save-made w c t e .marks-true) n (k .sheet-size) (k .sheet-front) (k .sheet-back) e'

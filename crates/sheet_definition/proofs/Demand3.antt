@@ -14,7 +14,7 @@ use Rattle.definition.specs.Buffer.{overwrite, joined}
 use Rattle.definition.specs.Refusal.{STALE, firstOf}
 use Rattle.sheet_definition.specs.Sheet.{q, checkRounds}
 use Rattle.sheet_definition.specs.Marks.{held, markAt, TrueMarks}
-use Rattle.sheet_definition.specs.SheetCalls.{SheetOutcome, refusedWith, acceptedWith, buildOutcome}
+use Rattle.sheet_definition.specs.SheetCalls.{refusedWith, acceptedWith, buildOutcome}
 use Rattle.sheet_definition.specs.Run.{World, Call, call, claimOf, outOf, placeOf, countOf, refusalsOf, roundsOf, left, next, run, applied, records, cut}
 use Rattle.sheet_definition.specs.Run.Call.{Change, Append, Drop}
 use Rattle.definition.proofs.Every.{every-take, every-append, every-set}
@@ -57,7 +57,7 @@ same-records w (Change place x claim out) rs s v =
 same-records w (Append x claim out) rs s v =
     record {
       sized = every-append _ rs (x ∷ []) (s .sized) (v .size, tt);
-      counted = length-append rs (x ∷ []) ∙ ap (λ (k : ℕ). k + 1) (s .counted);
+      counted = omega (arith, length-append rs (x ∷ []), s .counted);
       holds = rw (
         take-added (40 * w .n) (40 * (w .n + 1)) x (w .sheet) (omega arith) (v .sheet-room),
         joined-append rs (x ∷ []),
@@ -111,7 +111,7 @@ stands-built code sheet n marks out e =
     record {
       sized = forty-cut n sheet (f .sheet-room);
       counted = length-cut n sheet ∙ sym (k .count-kept);
-      holds = ap₂ (λ (i : ℕ) (l : List ℕ). take (40 * i) l) (k .count-kept) (k .sheet-kept) ∙ sym (joined-cut n sheet);
+      holds = rw (k .count-kept, k .sheet-kept, joined-cut n sheet);
       marks-true = build-made code sheet n marks out e .marks-true;
       count = omega arith;
       sheet-room = omega (arith, ap length (k .sheet-kept));
@@ -166,12 +166,6 @@ after w c rs s =
       rounds = save-rounds w c;
     }
 
--- a run's code is the one that it began with
-pub run-code : (w : World) (cs : List Call) → run w cs .code ≡ w .code
-unfolding run next left
-run-code w [] = refl
-run-code w (c ∷ cs) = run-code (next w c) cs
-
 -- Demand 3: from a world that stands for a list of records, in any run of saves, each call does what After says
 pub demand3 : (w : World) (rs : List (List ℕ)) → Stands w rs → (cs : List Call) (c : Call) → After (run w cs) c (records w rs cs)
 unfolding run records
@@ -213,9 +207,7 @@ old-claim w rs s place x claim out claim' out' d a b v e =
     let w' : World = next (next w c) c' in
     let s' : Stands (next w c) (applied 0 rs c) = rw a at (stands-next w c rs s) in
     let s'' : Stands w' (applied 0 (applied 0 rs c) c') = rw b at (stands-next (next w c) c' (applied 0 rs c) s') in
-    let n : w' .n ≡ w .n =
-    ap (λ (o : SheetOutcome). o .answer .count) (accepted-is (next w c) c' b .1)
-    ∙ ap (λ (o : SheetOutcome). o .answer .count) (accepted-is w c a .1) in
+    let n : w' .n ≡ w .n = rw (accepted-is (next w c) c' b .1, accepted-is w c a .1) in
     let h : held (w' .n) (w' .sheet) ≡ joined rs =
     ap₂ held n (change-back w place x claim out claim' out' (s .marks-true) a b .sheet-again) ∙ s .holds in
     save-accepted w' d (s'' .marks-true) .1 (v, e ∙ ap (luffa (w .code)) (sym h))

@@ -38,7 +38,7 @@ unfolding cut
 stands = stands-built 2 (replicate 80 0) 0 (replicate 40 0) (replicate 32 0) built
 
 -- the first save is accepted
-pub valid-one : firstOf (refusalsOf opened one false) ≡ 0
+valid-one : firstOf (refusalsOf opened one false) ≡ 0
 unfolding everything
 valid-one = refl
 
