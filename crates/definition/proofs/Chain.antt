@@ -32,12 +32,14 @@ five-filled (a ∷ b ∷ c ∷ d ∷ []) l = refl
 five-filled (a ∷ b ∷ c ∷ d ∷ e ∷ []) l = refl
 five-filled (a ∷ b ∷ c ∷ d ∷ e ∷ f ∷ h) l = absurd (omega arith)
 
+-- at most five blocks
 pub count-le : (w : Width) → blockCount w ≤ 5
 unfolding blockCount
 count-le W3 = omega arith
 count-le W4 = omega arith
 count-le W5 = omega arith
 
+-- five blocks by value give back the w blocks that they hold
 pub blocks-of-state : (w : Width) (h : List Block) → length h ≡ blockCount w → blocksIn w (stateOf h) ≡ h
 unfolding blocksIn
 blocks-of-state w h e = rw (five-filled h (omega (arith, count-le w))) (take-at h _ (blockCount w) e)

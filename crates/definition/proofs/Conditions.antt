@@ -1,6 +1,7 @@
--- What two conditions joined say of each.
+-- What two conditions joined say of each, and what a condition says that fails exactly at a statement.
 -- Assumes nothing.
 use mathlib.Core.Path.{_≡_, refl, sym}
+use mathlib.Core.Logic.{_↔_}
 use mathlib.Core.Bool.{Bool, true, false, _&&_, _||_, false≢true}
 use lib.Dec.{T}
 
@@ -22,3 +23,8 @@ both-true false b e = absurd (false≢true e)
 pub either-false : (a b : Bool) → (a || b) ≡ false → (a ≡ false) × (b ≡ false)
 either-false true b e = absurd (false≢true (sym e))
 either-false false b e = (refl, e)
+
+-- a condition that fails exactly at A holds exactly where A doesn't
+pub other-way : {A : Type 0} (b : Bool) → (b ≡ false) ↔ A → (b ≡ true) ↔ (A → ⊥)
+other-way true i = (λ e a. false≢true (sym (i .1 a)), λ f. refl)
+other-way false i = (λ e. absurd (false≢true e), λ f. absurd (f (i .0 refl)))

@@ -9,15 +9,18 @@ module _ {A : Type 0} (P : A → Type 0) where
   Every [] = Unit
   Every (a ∷ l) = P a × Every l
 
+  -- kept by the front of a list
   pub every-take : (l : List A) (n : ℕ) → Every l → Every (take n l)
   every-take l zero h = tt
   every-take [] (suc n) h = tt
   every-take (a ∷ l) (suc n) h = (h .0, every-take l n (h .1))
 
+  -- by two lists, one after the other
   pub every-append : (l m : List A) → Every l → Every m → Every (l ++ m)
   every-append [] m h k = k
   every-append (a ∷ l) m h k = (h .0, every-append l m (h .1) k)
 
+  -- and by an element replaced
   pub every-set : (l : List A) (n : ℕ) (x : A) → P x → Every l → Every (set l n x)
   every-set [] n x p h = tt
   every-set (a ∷ l) zero x p h = (p, h .1)

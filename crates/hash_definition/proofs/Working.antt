@@ -57,6 +57,7 @@ module _ (k : Kept) (t : Typed k) where
   length-lent = length-encode k (t .pending)
 
   module _ (byte : k .code < 256) where
+    -- its bytes hold it
     pub lent-decoded : decode (encode k) ≡ k
     lent-decoded = decode-encode k byte (t .words) (t .pending) (t .count)
 

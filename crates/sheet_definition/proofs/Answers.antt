@@ -1,8 +1,8 @@
 -- The answers of saves: document 01's rounds, and 11 exactly at a claim that isn't Luffa of the sheet found.
 -- Assumes nothing.
-use mathlib.Core.Path.{_≡_, refl, sym, ap, ap₂, _∙_}
+use mathlib.Core.Path.{_≡_, refl, sym, ap, _∙_}
 use mathlib.Core.Logic.{_↔_}
-use mathlib.Core.Bool.{Bool, true, false, not, false≢true}
+use mathlib.Core.Bool.{Bool, true, false, not}
 use mathlib.Core.List.{List}
 use Prim.Native.Nat.{ℕ, zero, suc, _<_, _+_, _*_, _≤_}
 use native.Mathlib.Nat.{le-refl}
@@ -18,6 +18,7 @@ use Rattle.sheet_definition.specs.SheetCalls.{SheetOutcome, refusedWith,
 use Rattle.sheet_definition.specs.Run.{World, Call, call, claimOf, outOf, placeOf, countOf, refusalsOf, roundsOf, left, next}
 use Rattle.sheet_definition.specs.Run.Call.{Change, Append, Drop}
 use Rattle.definition.proofs.Buffer.{length-overwriteAt}
+use Rattle.definition.proofs.Conditions.{other-way}
 use Rattle.definition.proofs.Refusals.{First, first-given, given-first}
 use Rattle.sheet_definition.proofs.Sheet.{check-from-last-mark}
 use Rattle.sheet_definition.proofs.Marks.{digest-from-mark, rounds-from-mark}
@@ -119,10 +120,7 @@ fresh-claim w c t l =
     rw (digest-from-mark (w .code) (w .n) m (w .sheet) (w .marks) (t m (le-refl m)) (le-refl m) l)
     (λ e. same-eq (claimOf c) d (not-false (same (claimOf c) d) e), λ e. rw e (ap not (same-refl d)))
 
-other-way : {A : Type 0} (b : Bool) → (b ≡ false) ↔ A → (b ≡ true) ↔ (A → ⊥)
-other-way true i = (λ e a. false≢true (sym (i .1 a)), λ f. refl)
-other-way false i = (λ e. absurd (false≢true e), λ f. absurd (f (i .0 refl)))
-
+-- what follows from the first of two is put for the second
 and-so : {A B C D : Type 0} → A ↔ (B × C) → (B → C ↔ D) → A ↔ (B × D)
 and-so i f = (λ a. (i .0 a .0, f (i .0 a .0) .0 (i .0 a .1)), λ p. i .1 (p .0, f (p .0) .1 (p .1)))
 
@@ -166,8 +164,7 @@ restores w n sheet place claim out t m l f b e =
     let k : call w c .answer .count ≡ n = rw (a .1) m in
     record {
       sheet-again = s;
-      digest-again =
-          save-made w c t e .digest ∙ ap₂ (λ (j : ℕ) (x : List ℕ). overwrite (luffa (w .code) (held j x)) out) k s;
+      digest-again = rw (save-made w c t e .digest, k, s);
     }
 
 -- a record changed to what it is: the same sheet and its digest

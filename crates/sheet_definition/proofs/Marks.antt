@@ -62,10 +62,8 @@ length-blocksTo (suc n) x = ap suc (length-blocksTo n (drop 32 x))
 pub padded-blocks : (last : ℕ) (x : List ℕ) → length (blocks (padded last x)) ≡ length x / 32 + 1
 unfolding blocks padded
 padded-blocks last x =
-    length-blocksTo (length (x ++ padding last (length x)) / 32) (x ++ padding last (length x)) ∙ count
-  where
-    count : length (x ++ padding last (length x)) / 32 ≡ length x / 32 + 1
-    count = omega (arith, length-append x (padding last (length x)), length-padding last (length x))
+    let p : List ℕ = padding last (length x) in
+    omega (arith, length-blocksTo (length (x ++ p) / 32) (x ++ p), length-append x p, length-padding last (length x))
 
 -- the rounds worked from mark m are document 01's
 pub rounds-from-mark : (code n m : ℕ) (sheet marks : List ℕ) → m ≤ q n → 40 * n ≤ length sheet

@@ -191,9 +191,7 @@ pub record Kept (w : World) (c : Call) (o : SheetOutcome) : Type 0 where
 
 pub save-kept : (w : World) (c : Call) → Kept w c (call w c)
 unfolding acceptedWith refusedWith
-save-kept w c =
-    by-answer w c (Kept w c) accepted
-    (λ k. search)
+save-kept w c = by-answer w c (Kept w c) accepted (λ k. search)
   where
     i : ℕ
     i = 40 * placeOf w c
