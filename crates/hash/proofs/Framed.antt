@@ -13,7 +13,7 @@ use Rattle.hash_definition.specs.declared.Lent.{Lent}
 use Rattle.hash_definition.specs.Record.{recordLength, allZero, wellFormed, wellKept, encode, decode, fed}
 use Rattle.hash_definition.specs.Calls.{outcome, recordRefusal, feedRefusals, finishRefusals, feedOutcome, finishOutcome}
 use Rattle.hash_definition.specs.Lent.{lentOutcome, keptRefusal, lentFeedRefusals, lentFinishRefusals, lentFeedOutcome, lentFinishOutcome}
-use Rattle.hash_definition.proofs.Feeding.{both-true}
+use Rattle.definition.proofs.Conditions.{both-true}
 use Rattle.hash_definition.proofs.Refused.{refused, accepted}
 use Rattle.hash_record.specs.declared.Reading.{Reading}
 use Rattle.hash_record.specs.Reading.{framed, readWhen, reading}

@@ -7,8 +7,7 @@ use Prim.Native.Nat.{ℕ, zero, suc, _+_, _-_, _*_, _/_, _%_, _<_, _≤_}
 use native.Mathlib.Nat.{zero-add}
 use native.Mathlib.Omega.{arith}
 use lib.ListN.{length, take, drop, replicate, length-append, length-drop, take-append-drop, drop-of-length-le}
-use lib.Seq.{length-take-le, drop-drop, drop-append-add}
-use Rattle.definition.specs.declared.Block.{Block}
+use lib.Seq.{length-take-le, drop-drop}
 use Rattle.hash_definition.specs.declared.Kept.{Kept}
 use Rattle.definition.specs.declared.State.{State}
 use Rattle.definition.specs.declared.Width.{Width}
@@ -18,8 +17,8 @@ use Rattle.definition.specs.State.{blocksIn, stateOf}
 use Rattle.definition.specs.Buffer.{overwriteAt}
 use Rattle.definition.specs.Luffa.{widthAt}
 use Rattle.hash_definition.specs.Record.{allZero, filled, pendingCount, pendingBytes, wellKept, fed}
-use Rattle.definition.proofs.Chain.{chain-append, length-chain, length-blocksIn, blocks-of-state}
-use Rattle.definition.proofs.Padding.{blocks-none, blocks-append, rest-short}
+use Rattle.definition.proofs.Chain.{chain-append, length-blocksIn, blocks-of-chain}
+use Rattle.definition.proofs.Padding.{blocks-none, blocks-append, rest-short, rest-feed, rest-whole}
 use Rattle.hash_definition.proofs.Feeding.{zeros, well-kept}
 
 -- nothing pending, and so no front
@@ -33,13 +32,6 @@ empty-front w s p front pos z e =
 pub full-front : (p front : List ℕ) (pos : ℕ) → length p ≡ 32 → pos + length front ≡ 32 → overwriteAt pos front p ≡ take pos p ++ front
 unfolding overwriteAt
 full-front p front pos e h = rw (h, drop-of-length-le p {i = 32} (omega arith)) (append-nil (take pos p ++ front))
-
--- what is left after whole blocks
-rest-append : (n : ℕ) (y t : List ℕ) → length y ≡ n * 32 → rest (y ++ t) ≡ rest t
-unfolding rest
-rest-append n y t e =
-    let m : length (y ++ t) / 32 * 32 ≡ length y + length t / 32 * 32 = omega (arith, length-append y t) in
-    ap (λ (k : ℕ). drop k (y ++ t)) m ∙ drop-append-add y t (length t / 32 * 32)
 
 zero-by : (n m : ℕ) → n ≡ m → _≡_ {A = List ℕ} (replicate n 0) (replicate m 0)
 zero-by n m e = ap (λ (k : ℕ). replicate k 0) e
@@ -102,13 +94,6 @@ front-rest p piece pos =
     ap (λ (l : List ℕ). take pos p ++ l) (sym (take-append-drop ((32 - pos) % 32) piece))
     ∙ sym (append-assoc (take pos p) (take ((32 - pos) % 32) piece) (drop ((32 - pos) % 32) piece))
 
--- a chain over both
-both-chained : (w : Width) (s : State) (x y : List Block)
-    → chain w (blocksIn w (stateOf (chain w (blocksIn w s) x))) y ≡ chain w (blocksIn w s) (x ++ y)
-both-chained w s x y =
-    rw (blocks-of-state w (chain w (blocksIn w s) x) (length-chain w (blocksIn w s) x (length-blocksIn w s)))
-    (sym (chain-append w (blocksIn w s) x y))
-
 -- a piece that completes the pending block
 pub completes : (k : Kept) (piece : List ℕ) → length (k .pending) ≡ 32 → 32 - k .count % 32 ≤ length piece
     → (s : State)
@@ -122,6 +107,7 @@ pub completes : (k : Kept) (piece : List ℕ) → length (k .pending) ≡ 32 →
     ≡ fed k piece
 unfolding fed pendingBytes pendingCount front
 completes k piece e n s f =
+    let w : Width = widthAt (k .code) in
     let pos : ℕ = k .count % 32 in
     let p : List ℕ = k .pending in
     let y : List ℕ = front p piece pos in
@@ -130,8 +116,10 @@ completes k piece e n s f =
     rw (
       front-rest p piece pos,
       blocks-append ((pos + 31) / 32) y t l,
-      rest-append ((pos + 31) / 32) y t l,
+      ← rest-feed y t,
+      rest-whole ((pos + 31) / 32) y l,
       f,
-      both-chained (widthAt (k .code)) (k .state) (blocks y) (blocks t),
+      blocks-of-chain w (blocksIn w (k .state)) (blocks y) (length-blocksIn w (k .state)),
+      ← chain-append w (blocksIn w (k .state)) (blocks y) (blocks t),
       zero-paste (rest t),
     )

@@ -1,8 +1,9 @@
 -- `hash_kept::zero_block` meets its contract: the OR of words is zero where each is.
 -- Assumes nothing.
+use mathlib.Core.Bool.{and-true}
 use Rattle.definition.specs.Block.{wordsOf}
 use Rattle.hash_definition.specs.Record.{allZero}
-use Rattle.hash_kept.proofs.Tests.{and-true, or-zero}
+use Rattle.hash_kept.proofs.Tests.{or-zero}
 use Rattle.hash_kept.proofs.zero_block.Statement.{statement}
 use Rattle.hash_kept.proofs.zero_block.Tie as tie
 
