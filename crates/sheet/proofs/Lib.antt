@@ -1,5 +1,1 @@
-pub mod Judged
-pub mod Reading
-pub mod Claims
-pub mod Groups
-pub mod Answered
+pub mod Saved

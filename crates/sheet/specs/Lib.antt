@@ -1,1 +1,1 @@
-pub mod Used
+pub mod Save

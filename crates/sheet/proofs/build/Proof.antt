@@ -2,7 +2,6 @@
 -- Assumes nothing.
 use mathlib.Core.Path.{_≡_, sym, ap, _∙_}
 use mathlib.Core.List.{[]}
-use Prim.Native.Nat.{_≤_}
 use native.Mathlib.Omega.{arith}
 use denote.Ref.{now}
 use borrow.Author.Needs.{needs}
@@ -12,48 +11,52 @@ use Rattle.definition.specs.State.{five}
 use Rattle.definition.specs.Buffer.{overwrite}
 use Rattle.definition.specs.Block.{wordsOfAll}
 use Rattle.definition.specs.Refusal.{firstOf}
-use Rattle.sheet_definition.specs.Sheet.{q, buildRefusals}
+use Rattle.sheet_definition.specs.Sheet.{buildRefusals}
 use Rattle.sheet_definition.specs.Marks.{markOf}
 use Rattle.definition.proofs.Buffer.{overwrite-front}
 use Rattle.sheet_definition.proofs.Outcomes.{Fits, fits}
-use Rattle.sheet.proofs.Answered.{build-refused, build-together}
+use Rattle.sheet_marks.proofs.Total.{written-at}
+use Rattle.sheet.proofs.Saved.{build-refused, build-together}
 use Rattle.sheet.proofs.build.Statement.{statement}
 use Rattle.sheet.proofs.build.Tie as tie
 
+-- the entry, from the judge
+abbrev entered : tie.After-build → tie.Start
+entered c = c .before .before .before .before
+
 returns : tie.Need-returns
 returns c =
-    let a = c .before .before .before .before .before .args in
+    let a = entered (c .before) .args in
     build-refused (a .code) (now (a .sheet)) (a .n) (now (a .marks)) (now (a .out)) _ (c .before .build .ensures) (c .if1 .taken)
 
 -- the arguments are valid
-passed : (c : tie.Else1)
-    → firstOf
-    (buildRefusals (c .before .before .before .before .before .args .code) (length (now (c .before .before .before .before .before .args .sheet))) (c .before .before .before .before .before .args .n) (length (now (c .before .before .before .before .before .args .marks))) (length (now (c .before .before .before .before .before .args .out))))
-    ≡ 0
-passed c = sym (c .before .build .ensures) ∙ c .if1 .left
-
 fine : (c : tie.Else1)
-    → Fits (c .before .before .before .before .before .args .code) (length (now (c .before .before .before .before .before .args .sheet))) (c .before .before .before .before .before .args .n) (length (now (c .before .before .before .before .before .args .marks))) (length (now (c .before .before .before .before .before .args .out)))
+    → Fits (entered (c .before) .args .code) (length (now (entered (c .before) .args .sheet))) (entered (c .before) .args .n) (length (now (entered (c .before) .args .marks))) (length (now (entered (c .before) .args .out)))
 unfolding buildRefusals
-fine c = fits _ _ _ _ _ [] (passed c) .0
-
-write-requires : tie.Need-write-requires
-write-requires c κs = omega (arith, fine (c .before .before .before) .marks-room)
+fine c = fits _ _ _ _ _ [] (sym (c .before .build .ensures) ∙ c .if1 .left) .0
 
 work-on-requires : tie.Need-work-on-requires
 work-on-requires c κs =
-    let f = fine (c .before .before .before .before .before .before .before .before) in
-    (f .count, f .sheet-room, omega (arith, f .marks-room, c .before .before .before .before .write .kept .0), omega arith, omega arith, f .out-room)
+    let w = c .before .before .before .before in
+    let f = fine (w .before .before .before .before) in
+    (f .count, f .sheet-room, omega (arith, f .marks-room, w .write .kept .0), omega arith, omega arith, f .out-room)
 
 returns-2 : tie.Need-returns-2
 unfolding markOf
 returns-2 c =
-    let a = c .before .before .before .before .before .before .before .before .before .before .before .before .before .before .before .before .before .before .args in
-    let e = c .before .before .before .before .before .before .before .before .before .write .ensures in
-    let w = c .before .before .before .before .work-on .ensures in
-    let s = rw (c .before .before .before .before .before .before .before .before .before .before .before .width .ensures) at (c .before .before .before .before .before .before .before .before .before .before .start .ensures) in
-    build-together (a .code) (now (a .sheet)) (a .n) (now (a .marks)) (now (a .out)) _ _ _ _ (passed (c .before .before .before .before .before .before .before .before .before .before .before .before .before))
-    (e ∙ overwrite-front _ _ ∙ ap (λ (h : State). overwrite (wordsOfAll (five h)) (now (a .marks))) s) (w .0) (w .1 .0) (w .1 .1)
+    let o = c .before .before .before .before in
+    let w = o .before .before .before .before .before in
+    let s = w .before in
+    let e = s .before .before .before in
+    let a = entered (e .before) .args in
+    let marks = now (a .marks) in
+    let h = rw (s .before .width .ensures) at (s .start .ensures) in
+    build-together (a .code) (now (a .sheet)) (a .n) marks (now (a .out)) _ _ _ _ (sym (e .before .build .ensures) ∙ e .if1 .left)
+    (w .write .ensures
+    ∙ written-at marks 0 (omega (arith, fine e .marks-room)) (s .start .result)
+    ∙ overwrite-front _ _
+    ∙ ap (λ (h : State). overwrite (wordsOfAll (five h)) marks) h)
+    (o .work-on .ensures .0) (o .work-on .ensures .1 .0) (o .work-on .ensures .1 .1)
 
 pub build-spec : {M : Type 1} → statement M
 build-spec =
@@ -63,7 +66,7 @@ build-spec =
     returns
     (λ c κs. tt)
     (λ c κs. tt)
-    write-requires
+    (λ c κs. tt)
     work-on-requires
     (λ c. search needs)
     (λ c. search needs)

@@ -1,0 +1,141 @@
+// Which refusal comes first, from codes, numbers and lengths alone (document 01, "Refusal numbers"). Whether a claim is stale is judged
+// afterwards.
+ghost use mathlib.Core.Path.{_≡_};
+ghost use mathlib.Core.Bool.{false};
+ghost use mathlib.Core.List.{[], _∷_};
+ghost use Rattle.definition.specs.Refusal.{STALE as STALE', firstOf};
+ghost use Rattle.sheet_definition.specs.Sheet.{sizeRefusal, claimRefusal, buildRefusals, changeRefusals, appendRefusals, dropRefusals};
+
+// The refusal numbers of document 01.
+pub const DONE: u64 = 0;
+
+pub const WIDTH: u64 = 1;
+
+pub const OUT: u64 = 2;
+
+pub const SHEET: u64 = 5;
+
+pub const MARKS: u64 = 6;
+
+pub const PLACE: u64 = 7;
+
+pub const FULL: u64 = 8;
+
+pub const SIZE: u64 = 9;
+
+pub const CLAIM: u64 = 10;
+
+pub const STALE: u64 = 11;
+
+// The most records of a sheet, the bytes of a record and the words of a mark.
+pub const MOST: usize = 1024;
+
+pub const RECORD: usize = 40;
+
+pub const MARK: usize = 40;
+
+// The four refusals that every call begins with. n is held to the most before it is multiplied.
+pub fn build(code: usize, sheet: usize, n: usize, marks: usize, out: usize) -> u64
+    ensures { λ r. ⌜ r ≡ firstOf (buildRefusals code sheet n marks out) ⌝ }
+{
+    if !codes::known(code) {
+        return WIDTH;
+    }
+    if out < 4 * codes::words(code) {
+        return OUT;
+    }
+    if MOST < n {
+        return SHEET;
+    }
+    let bytes = RECORD * n;
+    let words = MARK * (n / 4 + 1);
+    if sheet < bytes {
+        return SHEET;
+    }
+    if marks < words {
+        return MARKS;
+    }
+    DONE
+}
+
+// The claim's length, which every save judges last.
+fn claimed(code: usize, claim: usize) -> u64
+    ensures { λ r. ⌜ r ≡ firstOf (claimRefusal code claim ∷ (STALE', false) ∷ []) ⌝ }
+{
+    if claim != 4 * codes::words(code) {
+        return CLAIM;
+    }
+    DONE
+}
+
+// The record's length before it.
+fn recorded(code: usize, record: usize, claim: usize) -> u64
+    ensures { λ r. ⌜ r ≡ firstOf (sizeRefusal «record» ∷ claimRefusal code claim ∷ (STALE', false) ∷ []) ⌝ }
+{
+    if record != RECORD {
+        return SIZE;
+    }
+    claimed(code, claim)
+}
+
+pub fn change(
+    code: usize,
+    sheet: usize,
+    n: usize,
+    marks: usize,
+    place: usize,
+    record: usize,
+    claim: usize,
+    out: usize,
+) -> u64
+    ensures { λ r. ⌜ r ≡ firstOf (changeRefusals code sheet n marks place «record» claim out false) ⌝ }
+{
+    let first = build(code, sheet, n, marks, out);
+    if first != DONE {
+        return first;
+    }
+    if n <= place {
+        return PLACE;
+    }
+    recorded(code, record, claim)
+}
+
+pub fn append(
+    code: usize,
+    sheet: usize,
+    n: usize,
+    marks: usize,
+    record: usize,
+    claim: usize,
+    out: usize,
+) -> u64
+    ensures { λ r. ⌜ r ≡ firstOf (appendRefusals code sheet n marks «record» claim out false) ⌝ }
+{
+    let first = build(code, sheet, n, marks, out);
+    if first != DONE {
+        return first;
+    }
+    if n == MOST {
+        return FULL;
+    }
+    if sheet < RECORD * (n + 1) {
+        return FULL;
+    }
+    if marks < MARK * ((n + 1) / 4 + 1) {
+        return FULL;
+    }
+    recorded(code, record, claim)
+}
+
+pub fn drop(code: usize, sheet: usize, n: usize, marks: usize, claim: usize, out: usize) -> u64
+    ensures { λ r. ⌜ r ≡ firstOf (dropRefusals code sheet n marks claim out false) ⌝ }
+{
+    let first = build(code, sheet, n, marks, out);
+    if first != DONE {
+        return first;
+    }
+    if n == 0 {
+        return PLACE;
+    }
+    claimed(code, claim)
+}

@@ -1,0 +1,67 @@
+-- Reading, writing and clearing a mark where there is room; and the blocks of a mark as they are read, one after the other.
+-- Assumes nothing.
+use mathlib.Core.Path.{_≡_, refl, sym, ap, _∙_}
+use mathlib.Core.List.{List}
+use Prim.Native.Nat.{ℕ, _+_, _*_, _<_, _≤_}
+use native.Mathlib.Decide.{ℕ-discrete}
+use native.Mathlib.Omega.{arith}
+use borrow.Author.Tests.{le-leb, lt-ltb, le-ltb, eq-eqb, ne-eqb}
+use lib.Dec.{ltb}
+use lib.ListN.{length, drop, replicate, length-replicate}
+use Rattle.definition.specs.declared.State.{State}
+use Rattle.definition.specs.declared.Width.{Width}
+use Rattle.definition.specs.declared.Width.the-variants.{W3, W4, W5}
+use Rattle.definition.specs.Block.{wordsOf, wordsOfAll}
+use Rattle.definition.specs.Start.{blockCount}
+use Rattle.definition.specs.State.{five, stateOf}
+use Rattle.definition.specs.Buffer.{overwriteAt}
+use Rattle.sheet_definition.specs.Sheet.{q, r, zeroed}
+use Rattle.sheet_definition.specs.Marks.{blockFrom, markAt, stateFrom}
+use Rattle.sheet_definition.specs.SheetCalls.{zeroMarks}
+use Rattle.sheet_definition.proofs.Saves.{zero-one, zero-none}
+use Rattle.bytes.specs.Total.{writeAt}
+use Rattle.bytes.proofs.Total.{write-at}
+use Rattle.sheet_marks.specs.Total.{whenUsed, stateWhen, stateAt, clearWhen, cleared}
+
+-- five blocks one after the other, the last two where they are used
+unfoldable pub found : Width → List ℕ → State
+found w ws =
+    record {
+      h0 = blockFrom ws;
+      h1 = blockFrom (drop 8 ws);
+      h2 = blockFrom (drop 16 ws);
+      h3 = whenUsed (ltb 3 (blockCount w)) (blockFrom (drop 24 ws));
+      h4 = whenUsed (ltb 4 (blockCount w)) (blockFrom (drop 32 ws));
+    }
+
+-- are the state that the words hold
+pub found-state : (w : Width) (ws : List ℕ) → found w ws ≡ stateOf (stateFrom w ws)
+unfolding found stateOf stateFrom blockCount whenUsed
+found-state W3 ws = refl
+found-state W4 ws = refl
+found-state W5 ws = refl
+
+module _ (marks : List ℕ) (m : ℕ) (h : 40 * (m + 1) ≤ length marks) where
+  pub read-at : (w : Width) → stateAt w marks m ≡ stateOf (stateFrom w (markAt marks m))
+  unfolding stateAt stateWhen
+  read-at w = rw (le-leb (40 * (m + 1)) (length marks) h)
+
+  pub written-at : (s : State) → writeAt (40 * m) (wordsOfAll (five s)) marks ≡ overwriteAt (40 * m) (wordsOfAll (five s)) marks
+  unfolding wordsOfAll five wordsOf
+  written-at s = write-at (40 * m) (wordsOfAll (five s)) marks (omega arith)
+
+-- where the records become no fewer nothing is cleared
+pub cleared-none : (n count : ℕ) (marks : List ℕ) → n ≤ count → cleared n count marks ≡ marks
+unfolding cleared clearWhen
+cleared-none n count marks h = rw (le-ltb count n h)
+
+-- else what a drop zeroes
+pub cleared-fewer : (n count : ℕ) (marks : List ℕ) → count < n → 40 * (q n + 1) ≤ length marks
+    → cleared n count marks ≡ zeroMarks (zeroed n) marks
+unfolding cleared clearWhen zeroMarks
+cleared-fewer n count marks h l =
+    elim (ℕ-discrete (r n) 0) [
+      | yes e ↦ rw (lt-ltb count n h, eq-eqb (r n) 0 e, zero-one n e)
+          (write-at (40 * q n) (replicate 40 0) marks (omega (arith, length-replicate {A = ℕ} 40 0)))
+      | no e ↦ rw (lt-ltb count n h, ne-eqb (r n) 0 e, zero-none n e)
+    ]

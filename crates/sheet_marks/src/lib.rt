@@ -1,0 +1,152 @@
+// A mark: 40 words that hold a state (document 01, "Sheet and marks"). Marks that are too short read as zero, and nothing is written where
+// there is no room.
+ghost use mathlib.Core.Path.{_≡_};
+ghost use Prim.Native.Nat.{_*_, _≤_};
+ghost use lib.ListN.{length};
+ghost use Rattle.definition.specs.Block.{wordsOfAll};
+ghost use Rattle.definition.specs.State.{five};
+ghost use Rattle.sheet_definition.specs.Marks.{blockFrom};
+ghost use Rattle.bytes.specs.Total.{writeAt};
+ghost use Rattle.sheet_marks.specs.Total.{whenUsed, stateAt, cleared};
+use definition::Block;
+use definition::State;
+use definition::Width;
+use sheet_judge::MARK;
+
+// The first eight words of a slice.
+fn block(t: &[u32]) -> Block
+    requires { ⌜ 8 ≤ length (now t) ⌝ }
+    ensures { λ r. ⌜ r ≡ blockFrom (now (t .entry)) ⌝ }
+{
+    Block {
+        a0: t[0],
+        a1: t[1],
+        a2: t[2],
+        a3: t[3],
+        a4: t[4],
+        a5: t[5],
+        a6: t[6],
+        a7: t[7],
+    }
+}
+
+// The same where the block is used, else zero: the words of an unused block are not read.
+fn block_when(used: bool, t: &[u32]) -> Block
+    requires { ⌜ 8 ≤ length (now t) ⌝ }
+    ensures { λ r. ⌜ r ≡ whenUsed used (blockFrom (now (t .entry))) ⌝ }
+{
+    if used {
+        return block(t);
+    }
+    blocks::zero()
+}
+
+// The state that mark m holds.
+pub fn read(w: Width, marks: &[u32], m: usize) -> State
+    ensures { λ r. ⌜ r ≡ stateAt w (now (marks .entry)) m ⌝ }
+{
+    if marks.len() / MARK <= m {
+        let zero = blocks::zero();
+        return State {
+            h0: zero,
+            h1: zero,
+            h2: zero,
+            h3: zero,
+            h4: zero,
+        };
+    }
+    let k = blocks::count(w);
+    let i = MARK * m;
+    let end = i + MARK;
+    let t = &marks[i..end];
+    State {
+        h0: block(t),
+        h1: block(&t[8..]),
+        h2: block(&t[16..]),
+        h3: block_when(3 < k, &t[24..]),
+        h4: block_when(4 < k, &t[32..]),
+    }
+}
+
+// The words of mark m.
+fn put(marks: &mut [u32], m: usize, ws: &[u32])
+    requires { ⌜ length (now ws) ≡ 40 ⌝ }
+    ensures { λ _. ⌜ now (marks .exit) ≡ writeAt (40 * m) (now (ws .entry)) (now (marks .entry)) ⌝ }
+{
+    if marks.len() / MARK <= m {
+        return;
+    }
+    let i = MARK * m;
+    let mut j = 0;
+    while j < MARK {
+        marks[i + j] = ws[j];
+        j += 1;
+    }
+}
+
+// A state, written as mark m.
+pub fn write(marks: &mut [u32], m: usize, s: State)
+    ensures { λ _. ⌜ now (marks .exit) ≡ writeAt (40 * m) (wordsOfAll (five s)) (now (marks .entry)) ⌝ }
+{
+    let h0 = s.h0;
+    let h1 = s.h1;
+    let h2 = s.h2;
+    let h3 = s.h3;
+    let h4 = s.h4;
+    let ws = [
+        h0.a0,
+        h0.a1,
+        h0.a2,
+        h0.a3,
+        h0.a4,
+        h0.a5,
+        h0.a6,
+        h0.a7,
+        h1.a0,
+        h1.a1,
+        h1.a2,
+        h1.a3,
+        h1.a4,
+        h1.a5,
+        h1.a6,
+        h1.a7,
+        h2.a0,
+        h2.a1,
+        h2.a2,
+        h2.a3,
+        h2.a4,
+        h2.a5,
+        h2.a6,
+        h2.a7,
+        h3.a0,
+        h3.a1,
+        h3.a2,
+        h3.a3,
+        h3.a4,
+        h3.a5,
+        h3.a6,
+        h3.a7,
+        h4.a0,
+        h4.a1,
+        h4.a2,
+        h4.a3,
+        h4.a4,
+        h4.a5,
+        h4.a6,
+        h4.a7,
+    ];
+    put(marks, m, &ws);
+}
+
+// A sheet of n records becomes one of count: mark q is zeroed where they become fewer and r = 0, as a drop leaves it.
+pub fn clear(marks: &mut [u32], n: usize, count: usize)
+    ensures { λ _. ⌜ now (marks .exit) ≡ cleared n count (now (marks .entry)) ⌝ }
+{
+    if n <= count {
+        return;
+    }
+    if n % 4 != 0 {
+        return;
+    }
+    put(marks, n / 4, &[0u32; 40]);
+}

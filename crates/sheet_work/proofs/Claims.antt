@@ -1,0 +1,48 @@
+-- A claim compared with the front of a buffer, first byte by first byte, and a digest that stands there.
+-- Assumes nothing.
+use mathlib.Core.Path.{_≡_, refl, sym, ap, _∙_}
+use mathlib.Core.Bool.{Bool, true, _&&_}
+use mathlib.Core.List.{List, [], _∷_}
+use Prim.Native.Nat.{ℕ, _<_, _≤_}
+use native.Mathlib.Omega.{arith}
+use lib.Dec.{eqb}
+use lib.ListN.{length, getD, take, drop, length-append}
+use lib.Seq.{take-at}
+use Rattle.definition.specs.Luffa.{bytesAt}
+use Rattle.definition.specs.Buffer.{overwrite, same}
+use Rattle.sheet_definition.specs.Marks.{worked}
+use Rattle.sheet_definition.proofs.Writes.{length-digest}
+
+abbrev pub front : (x d : List ℕ) → Bool
+front x d = same x (take (length x) d)
+
+-- nothing left is in front
+pub none-left : (x d : List ℕ) → length x ≡ 0 → front x d ≡ true
+none-left [] d e = refl
+none-left (a ∷ x) d e = absurd (omega arith)
+
+-- else the first bytes and then what is left decide
+pub first-bytes : (x d : List ℕ) → 0 < length x → length x ≤ length d
+    → front x d ≡ eqb (getD x 0 0) (getD d 0 0) && front (drop 1 x) (drop 1 d)
+first-bytes [] d h l = absurd (omega arith)
+first-bytes (a ∷ x) [] h l = absurd (omega arith)
+first-bytes (a ∷ x) (b ∷ d) h l = refl
+
+module _ (code n m : ℕ) (sheet marks claim buffer digest : List ℕ) (h : length claim ≡ bytesAt code)
+    (e : digest ≡ overwrite (worked code n sheet marks m .digest) buffer) where
+  size : length claim ≡ length (worked code n sheet marks m .digest)
+  size = h ∙ sym (length-digest code n m sheet marks)
+
+  -- a digest that was worked out stands in front of its buffer
+  pub in-front : length claim ≤ length digest
+  unfolding overwrite
+  in-front =
+      let d : List ℕ = worked code n sheet marks m .digest in
+      omega (arith, size, ap length e, length-append d (drop (length d) buffer))
+
+  -- and is what the claim is compared with
+  pub compared : take (length claim) digest ≡ worked code n sheet marks m .digest
+  unfolding overwrite
+  compared =
+      let d : List ℕ = worked code n sheet marks m .digest in
+      ap (take (length claim)) e ∙ take-at d (drop (length d) buffer) (length claim) (sym size)

@@ -1,0 +1,202 @@
+-- The work from a mark to the end, group by group: what is left to do from here gives the whole, and the whole is what the definition says.
+-- Assumes nothing.
+use mathlib.Core.Path.{_≡_, refl, sym, ap, _∙_}
+use mathlib.Core.List.{List}
+use Prim.Native.Nat.{ℕ, suc, _+_, _-_, _*_, _/_, _%_, _^_, _<_, _≤_, min}
+use native.Mathlib.Omega.{arith}
+use lib.ListN.{length, take, drop, replicate, length-replicate, length-drop, take-append-drop}
+use lib.Seq.{length-take-le, take-take, drop-drop}
+use Rattle.definition.specs.declared.Block.{Block}
+use Rattle.definition.specs.declared.Counted.{Counted}
+use Rattle.definition.specs.declared.State.{State}
+use Rattle.definition.specs.declared.Width.{Width}
+use Rattle.definition.specs.declared.Width.the-variants.{W3, W4, W5}
+use Rattle.definition.specs.Word.{bytesOfAll}
+use Rattle.definition.specs.Block.{zeroBlock, wordsOf, wordsOfAll}
+use Rattle.definition.specs.Round.{chain}
+use Rattle.definition.specs.Padding.{closing, padded, blocks}
+use Rattle.definition.specs.Start.{blockCount}
+use Rattle.definition.specs.State.{five, blocksIn, stateOf}
+use Rattle.definition.specs.Final.{final, finalRounds}
+use Rattle.definition.specs.Counted.{countedChain}
+use Rattle.definition.specs.Luffa.{widthAt, wordsAt, bytesAt}
+use Rattle.definition.specs.Buffer.{overwriteAt, overwrite}
+use Rattle.sheet_definition.specs.Sheet.{q}
+use Rattle.sheet_definition.specs.Marks.{held, markAt, stateFrom, markOf, marksAfter, digestAfter, roundsAfter, worked}
+use Rattle.definition.proofs.Buffer.{overwriteAt-more, overwriteAt-none}
+use Rattle.definition.proofs.Chain.{blocks-of-state, counted-append, counted-state, counted-blocks, counted-rounds}
+use Rattle.definition.proofs.Codes.{words-le}
+use Rattle.definition.proofs.Padding.{blocks-append}
+use Rattle.sheet_definition.proofs.Writes.{drop-take}
+use Rattle.sheet_definition.proofs.Marks.{padded-append, padded-blocks, length-mark}
+use Rattle.squeeze.proofs.Digests.{all-words, squeezed-out}
+
+-- the records held from place i on, where they lie in the sheet
+from-place : (i j : ℕ) (l : List ℕ) → i ≤ j → take (j - i) (drop i l) ≡ drop i (take j l)
+from-place i j l h = sym (drop-take i (j - i) l) ∙ ap (λ (k : ℕ). drop i (take k l)) {x = i + (j - i)} {y = j} (omega arith)
+
+-- and a group of them
+group-there : (k n : ℕ) (sheet : List ℕ) → k < q n → 40 * n ≤ length sheet
+    → take (160 * k + 160 - 160 * k) (drop (160 * k) sheet) ≡ take 160 (drop (160 * k) (held n sheet))
+unfolding held q
+group-there k n sheet h l =
+    ap (λ (a : ℕ). take a (drop (160 * k) sheet)) {x = 160 * k + 160 - 160 * k} {y = 160} (omega arith)
+    ∙ sym (take-take 160 (40 * n - 160 * k) (drop (160 * k) sheet) (omega arith))
+    ∙ ap (take 160) (from-place (160 * k) (40 * n) sheet (omega arith))
+
+-- what is still to come from mark k on: the marks as they will be, and the state with its count after the padded rest
+pub record Ahead : Type 0 where
+  pub marks : List ℕ
+  pub counted : Counted
+
+unfoldable pub ahead : Width → (n : ℕ) → (sheet : List ℕ) → (k : ℕ) → Counted → (marks : List ℕ) → Ahead
+ahead w n sheet k c marks =
+    let x : List ℕ = drop (160 * k) (held n sheet) in
+    record {
+      marks = overwriteAt (40 * (k + 1)) (marksAfter w (q n - k) (blocksIn w (c .state)) x) marks;
+      counted = countedChain w c (blocks (padded closing x));
+    }
+
+-- a group's mark, and those after it
+marks-step : (w : Width) (j k : ℕ) (h : List Block) (x marks : List ℕ) → 40 * (k + 1) ≤ length marks
+    → overwriteAt (40 * (k + 1 + 1)) (marksAfter w j (chain w h (blocks (take 160 x))) (drop 160 x))
+    (overwriteAt (40 * (k + 1)) (markOf (chain w h (blocks (take 160 x)))) marks)
+    ≡ overwriteAt (40 * (k + 1)) (marksAfter w (suc j) h x) marks
+unfolding marksAfter
+marks-step w j k h x marks l =
+    let h' : List Block = chain w h (blocks (take 160 x)) in
+    overwriteAt-more (40 * (k + 1)) (40 * (k + 1 + 1)) (markOf h') (marksAfter w j h' (drop 160 x)) marks l (omega (arith, length-mark h'))
+
+-- a group's rounds, and those after it
+rounds-step : (w : Width) (c : Counted) (x : List ℕ) → 160 ≤ length x
+    → countedChain w (countedChain w c (blocks (take 160 x))) (blocks (padded closing (drop 160 x))) ≡ countedChain w c (blocks (padded closing x))
+rounds-step w c x l =
+    let e : length (take 160 x) ≡ 5 * 32 = length-take-le 160 x l in
+    sym (counted-append w c (blocks (take 160 x)) (blocks (padded closing (drop 160 x))))
+    ∙ ap (countedChain w c)
+    (sym (blocks-append 5 (take 160 x) (padded closing (drop 160 x)) e)
+    ∙ ap blocks (sym (padded-append 5 closing (take 160 x) (drop 160 x) e) ∙ ap (padded closing) (take-append-drop 160 x)))
+
+-- before the last mark a group is left
+group-left : (n k : ℕ) (sheet : List ℕ) → k < q n → 40 * n ≤ length sheet → 160 ≤ length (drop (160 * k) (held n sheet))
+unfolding held q
+group-left n k sheet h l = omega (arith, length-drop (160 * k) (take (40 * n) sheet), length-take-le (40 * n) sheet l)
+
+-- one group further on, with its mark written, the same is still to come
+pub group-on : (w : Width) (n k : ℕ) (c d : Counted) (sheet marks marks' : List ℕ) → k < q n → 40 * n ≤ length sheet
+    → 40 * (q n + 1) ≤ length marks
+    → d ≡ countedChain w c (blocks (take (160 * k + 160 - 160 * k) (drop (160 * k) sheet)))
+    → marks' ≡ overwriteAt (40 * (k + 1)) (wordsOfAll (five (d .state))) marks
+    → ahead w n sheet (k + 1) d marks' ≡ ahead w n sheet k c marks
+unfolding ahead markOf
+group-on w n k c d sheet marks marks' h l r e f =
+    let x : List ℕ = drop (160 * k) (held n sheet) in
+    let ms : List Block = blocks (take 160 x) in
+    let g : d ≡ countedChain w c ms = e ∙ ap (λ (t : List ℕ). countedChain w c (blocks t)) (group-there k n sheet h l) in
+    let y : drop (160 * (k + 1)) (held n sheet) ≡ drop 160 x =
+    ap (λ (i : ℕ). drop i (held n sheet)) {x = 160 * (k + 1)} {y = 160 * k + 160} (omega arith) ∙ sym (drop-drop 160 (160 * k) (held n sheet)) in
+    let b : blocksIn w (d .state) ≡ chain w (blocksIn w (c .state)) ms = ap (λ (t : Counted). blocksIn w (t .state)) g ∙ counted-blocks w c ms in
+    let m : marks' ≡ overwriteAt (40 * (k + 1)) (markOf (chain w (blocksIn w (c .state)) ms)) marks =
+    f ∙ ap (λ (s : State). overwriteAt (40 * (k + 1)) (wordsOfAll (five s)) marks) (ap (λ (t : Counted). t .state) g ∙ counted-state w c ms) in
+    let j : q n - k ≡ suc (q n - (k + 1)) = omega arith in
+    let p : overwriteAt (40 * (k + 1 + 1)) (marksAfter w (q n - (k + 1)) (blocksIn w (d .state)) (drop (160 * (k + 1)) (held n sheet))) marks'
+    ≡ overwriteAt (40 * (k + 1)) (marksAfter w (q n - k) (blocksIn w (c .state)) x) marks =
+    rw (y, b, m, j) (marks-step w (q n - (k + 1)) k (blocksIn w (c .state)) x marks (omega arith)) in
+    let t : countedChain w d (blocks (padded closing (drop (160 * (k + 1)) (held n sheet)))) ≡ countedChain w c (blocks (padded closing x)) =
+    rw (y, g) (rounds-step w c x (group-left n k sheet h l)) in
+    λ i. record { marks = p i; counted = t i }
+
+-- from the last mark on no mark is written
+nothing-written : (w : Width) (n : ℕ) (h : List Block) (x marks : List ℕ) → 40 * (q n + 1) ≤ length marks
+    → overwriteAt (40 * (q n + 1)) (marksAfter w (q n - q n) h x) marks ≡ marks
+unfolding marksAfter
+nothing-written w n h x marks r =
+    let i : ℕ = 40 * (q n + 1) in
+    let j : q n - q n ≡ 0 = omega arith in
+    rw j (overwriteAt-none i marks r)
+
+-- so the check leaves the marks
+pub check-leaves : (code n : ℕ) (sheet marks : List ℕ) → 40 * (q n + 1) ≤ length marks → worked code n sheet marks (q n) .marks ≡ marks
+unfolding worked
+check-leaves code n sheet marks r = nothing-written _ n _ _ marks r
+
+-- a mark's state is that of its used blocks
+length-state : (w : Width) (ws : List ℕ) → length (stateFrom w ws) ≡ blockCount w
+unfolding stateFrom blockCount
+length-state W3 ws = refl
+length-state W4 ws = refl
+length-state W5 ws = refl
+
+-- few bytes and few rounds before them: no count wraps
+no-wrap : (code before bytes a k z : ℕ) → before < 2 ^ 32 → a ≡ (before + k) % 2 ^ 64 → z ≡ finalRounds (wordsAt code) → k ≡ bytes / 32 + 1
+    → bytes ≤ 40960 → (a + z) % 2 ^ 64 ≡ before + (k + finalRounds (wordsAt code))
+unfolding finalRounds
+no-wrap code before bytes a k z b d e f g = omega (arith, words-le code)
+
+-- the whole, from the state s of mark m: c and marks' stand at the last mark, d is after the padded end, and out has room for the digest
+module _ (code n m before : ℕ) (sheet marks out : List ℕ) (s : State) (k : ℕ) (c d : Counted) (marks' : List ℕ)
+    (e : s ≡ stateOf (stateFrom (widthAt code) (markAt marks m))) (g : k ≡ q n)
+    (f : ahead (widthAt code) n sheet k c marks' ≡ ahead (widthAt code) n sheet m (record { state = s; rounds = before }) marks)
+    (a : d ≡ countedChain (widthAt code) c (blocks (padded closing (take (40 * n - 160 * (n / 4)) (drop (160 * (n / 4)) sheet)))))
+    (room : 40 * n ≤ length sheet) (out-room : bytesAt code ≤ length out) where
+  abbrev pub w : Width
+  w = widthAt code
+
+  abbrev begun : Counted
+  begun = record { state = s; rounds = before }
+
+  abbrev rest : List ℕ
+  rest = drop (160 * m) (held n sheet)
+
+  abbrev ms : List Block
+  ms = blocks (padded closing rest)
+
+  -- the state is the mark's, and the last rounds were run over all that was to come
+  found : blocksIn w s ≡ stateFrom w (markAt marks m)
+  found = ap (blocksIn w) e ∙ blocks-of-state w (stateFrom w (markAt marks m)) (length-state w (markAt marks m))
+
+  ended : d ≡ countedChain w begun ms
+  unfolding ahead held q
+  ended =
+      a
+      ∙ ap (λ (x : List ℕ). countedChain w c (blocks (padded closing x))) (from-place (160 * (n / 4)) (40 * n) sheet (omega arith))
+      ∙ ap (λ (i : ℕ). countedChain w c (blocks (padded closing (drop (160 * i) (take (40 * n) sheet))))) (sym g)
+      ∙ ap (λ (t : Ahead). t .counted) f
+
+  marks-worked : 40 * (q n + 1) ≤ length marks' → marks' ≡ worked code n sheet marks m .marks
+  unfolding worked ahead
+  marks-worked r =
+      sym (nothing-written w n (blocksIn w (c .state)) (drop (160 * q n) (held n sheet)) marks' r)
+      ∙ ap (λ (t : Ahead). t .marks) (ap (λ (i : ℕ). ahead w n sheet i c marks') (sym g) ∙ f)
+      ∙ rw found
+
+  abbrev pub words : ℕ
+  words = min (wordsAt code) (length out / 4)
+
+  digest-worked : bytesOfAll (final w words (blocksIn w (d .state))) ≡ worked code n sheet marks m .digest
+  unfolding worked digestAfter
+  digest-worked = rw ended (ap bytesOfAll (squeezed-out code begun ms out out-room ∙ rw found))
+
+  -- the count is the number of rounds that the definition applies
+  rounds-worked : n ≤ 1024 → before < 2 ^ 32
+      → countedChain w d (replicate (finalRounds words) zeroBlock) .rounds ≡ before + worked code n sheet marks m .rounds
+  unfolding worked roundsAfter
+  rounds-worked h b =
+      let zs : List Block = replicate (finalRounds words) zeroBlock in
+      let t : d .rounds ≡ (before + length ms) % 2 ^ 64 =
+      ap (λ (t : Counted). t .rounds) ended ∙ counted-rounds w begun ms (omega arith) in
+      counted-rounds w d zs (omega arith)
+      ∙ no-wrap code before (length rest) (d .rounds) (length ms) (length zs) b t
+      (length-replicate (finalRounds words) zeroBlock ∙ ap finalRounds (all-words code out out-room))
+      (padded-blocks closing rest)
+      (unfold held in omega (arith, length-drop (160 * m) (take (40 * n) sheet), length-take-le (40 * n) sheet room))
+
+  -- so the final stage leaves what the definition says
+  pub all-worked : (x : Counted) (out' : List ℕ) → n ≤ 1024 → before < 2 ^ 32 → 40 * (q n + 1) ≤ length marks'
+      → (x ≡ countedChain w d (replicate (finalRounds words) zeroBlock)) × (out' ≡ overwrite (bytesOfAll (final w words (blocksIn w (d .state)))) out)
+      → (x .rounds ≡ before + worked code n sheet marks m .rounds)
+      × ((marks' ≡ worked code n sheet marks m .marks) × (out' ≡ overwrite (worked code n sheet marks m .digest) out))
+  all-worked x out' h b r z = (
+    ap (λ (t : Counted). t .rounds) (z .0) ∙ rounds-worked h b,
+    (marks-worked r, z .1 ∙ ap (λ (p : List ℕ). overwrite p out) digest-worked),
+  )
