@@ -2,7 +2,7 @@
 -- Assumes nothing.
 use mathlib.Core.Path.{_≡_, refl, sym, _∙_}
 use mathlib.Core.Bool.{Bool, true, false}
-use mathlib.Core.List.{List, []}
+use mathlib.Core.List.{List}
 use Prim.Native.Nat.{ℕ, suc, _+_, _*_, _^_, _<_, _≤_}
 use native.Mathlib.Omega.{arith}
 use lib.Dec.{eqb}
@@ -19,7 +19,7 @@ use Rattle.sheet_definition.specs.Run.{World, Call, call, claimOf, outOf, place
 use Rattle.sheet_definition.specs.Run.Call.{Change, Append, Drop}
 use Rattle.definition.proofs.Codes.{words-le}
 use Rattle.sheet_definition.proofs.Outcomes.{by-number}
-use Rattle.sheet_definition.proofs.Saves.{recordOf, marksOf, staleOf, checkOf, sheetOf, Valid, valid}
+use Rattle.sheet_definition.proofs.Saves.{recordOf, marksOf, staleOf, checkOf, acceptedOf, Valid, valid}
 use Rattle.sheet_definition.proofs.Answers.{check-rounds, stale-first, accepted-first}
 use Rattle.sheet_marks.specs.Total.{cleared}
 use Rattle.sheet_marks.proofs.Total.{cleared-none, cleared-fewer}
@@ -60,29 +60,20 @@ marks-cleared w (Append x claim out) v = cleared-none (w .n) (w .n + 1) (w .mark
 marks-cleared w (Drop claim out) v = cleared-fewer (w .n) _ (w .marks) (omega arith) (v .marks-room)
 
 -- a call whose other arguments are judged is a save
-module _ (w : World) (c : Call) {k : ℕ} (e : k ≡ firstOf (refusalsOf w c false)) (z : k ≡ 0) where
-  passed : firstOf (refusalsOf w c false) ≡ 0
-  passed = sym e ∙ z
-
-  pub fine : Valid w c
-  fine = valid w c false passed
-
+module _ (w : World) (c : Call) (e : firstOf (refusalsOf w c false) ≡ 0) where
   pub judged : Judged (w .code) (length (w .sheet)) (w .n) (length (w .marks)) (placeOf w c) (length (recordOf c)) (countOf w c)
       (length (claimOf c)) (length (outOf c))
-  judged =
-      let v = fine in
-      omega arith
+  judged = omega (arith, valid w c false e)
+
+  by-claim : (b : Bool) → staleOf w c ≡ b
+      → whenStale b (refusedWith STALE (w .n) (checkOf w) (w .sheet) (w .marks) (outOf c)) (acceptedOf w c) ≡ call w c
+  unfolding whenStale
+  by-claim true f = stale-first w c e f
+  by-claim false f = accepted-first w c e f
 
   pub saved : saveOutcome (w .code) (w .sheet) (w .n) (w .marks) (placeOf w c) (recordOf c) (countOf w c) (claimOf c) (outOf c) ≡ call w c
-  unfolding saveOutcome whenStale
-  saved = rw (marks-cleared w c fine) (by-claim (staleOf w c) refl)
-    where
-      by-claim : (b : Bool) → staleOf w c ≡ b
-          → whenStale b (refusedWith STALE (w .n) (checkOf w) (w .sheet) (w .marks) (outOf c))
-          (acceptedWith (countOf w c) (checkOf w) (sheetOf w c) (worked (w .code) (countOf w c) (sheetOf w c) (marksOf w c) (q (placeOf w c))) (outOf c))
-          ≡ call w c
-      by-claim true f = stale-first w c passed f
-      by-claim false f = accepted-first w c passed f
+  unfolding saveOutcome
+  saved = rw (marks-cleared w c (valid w c false e)) (by-claim (staleOf w c) refl)
 
 either-none : (b : Bool) → pick b 0 0 ≡ 0
 unfolding pick

@@ -58,24 +58,17 @@ pub fn build(code: usize, sheet: usize, n: usize, marks: usize, out: usize) -> u
     DONE
 }
 
-// The claim's length, which every save judges last.
-fn claimed(code: usize, claim: usize) -> u64
-    ensures { λ r. ⌜ r ≡ firstOf (claimRefusal code claim ∷ (STALE', false) ∷ []) ⌝ }
-{
-    if claim != 4 * codes::words(code) {
-        return CLAIM;
-    }
-    DONE
-}
-
-// The record's length before it.
-fn recorded(code: usize, record: usize, claim: usize) -> u64
+// The record's length and the claim's, which every save judges last; a drop writes a whole record of zeros.
+fn sized(code: usize, record: usize, claim: usize) -> u64
     ensures { λ r. ⌜ r ≡ firstOf (sizeRefusal «record» ∷ claimRefusal code claim ∷ (STALE', false) ∷ []) ⌝ }
 {
     if record != RECORD {
         return SIZE;
     }
-    claimed(code, claim)
+    if claim != 4 * codes::words(code) {
+        return CLAIM;
+    }
+    DONE
 }
 
 pub fn change(
@@ -97,7 +90,7 @@ pub fn change(
     if n <= place {
         return PLACE;
     }
-    recorded(code, record, claim)
+    sized(code, record, claim)
 }
 
 pub fn append(
@@ -124,7 +117,7 @@ pub fn append(
     if marks < MARK * ((n + 1) / 4 + 1) {
         return FULL;
     }
-    recorded(code, record, claim)
+    sized(code, record, claim)
 }
 
 pub fn drop(code: usize, sheet: usize, n: usize, marks: usize, claim: usize, out: usize) -> u64
@@ -137,5 +130,5 @@ pub fn drop(code: usize, sheet: usize, n: usize, marks: usize, claim: usize, out
     if n == 0 {
         return PLACE;
     }
-    claimed(code, claim)
+    sized(code, RECORD, claim)
 }

@@ -1,6 +1,6 @@
 -- Reading, writing and clearing a mark where there is room; and the blocks of a mark as they are read, one after the other.
 -- Assumes nothing.
-use mathlib.Core.Path.{_≡_, refl, sym, ap, _∙_}
+use mathlib.Core.Path.{_≡_, refl, sym, _∙_}
 use mathlib.Core.List.{List}
 use Prim.Native.Nat.{ℕ, _+_, _*_, _<_, _≤_}
 use native.Mathlib.Decide.{ℕ-discrete}
@@ -35,7 +35,7 @@ found w ws =
     }
 
 -- are the state that the words hold
-pub found-state : (w : Width) (ws : List ℕ) → found w ws ≡ stateOf (stateFrom w ws)
+found-state : (w : Width) (ws : List ℕ) → found w ws ≡ stateOf (stateFrom w ws)
 unfolding found stateOf stateFrom blockCount whenUsed
 found-state W3 ws = refl
 found-state W4 ws = refl
@@ -45,6 +45,9 @@ module _ (marks : List ℕ) (m : ℕ) (h : 40 * (m + 1) ≤ length marks) where
   pub read-at : (w : Width) → stateAt w marks m ≡ stateOf (stateFrom w (markAt marks m))
   unfolding stateAt stateWhen
   read-at w = rw (le-leb (40 * (m + 1)) (length marks) h)
+
+  pub found-at : (w : Width) → found w (markAt marks m) ≡ stateAt w marks m
+  found-at w = found-state w (markAt marks m) ∙ sym (read-at w)
 
   pub written-at : (s : State) → writeAt (40 * m) (wordsOfAll (five s)) marks ≡ overwriteAt (40 * m) (wordsOfAll (five s)) marks
   unfolding wordsOfAll five wordsOf

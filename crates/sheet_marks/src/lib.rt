@@ -13,11 +13,14 @@ use definition::State;
 use definition::Width;
 use sheet_judge::MARK;
 
-// The first eight words of a slice.
-fn block(t: &[u32]) -> Block
+// The first eight words of a slice where the block is used, else zero: the words of an unused block are not read.
+fn block(used: bool, t: &[u32]) -> Block
     requires { ⌜ 8 ≤ length (now t) ⌝ }
-    ensures { λ r. ⌜ r ≡ blockFrom (now (t .entry)) ⌝ }
+    ensures { λ r. ⌜ r ≡ whenUsed used (blockFrom (now (t .entry))) ⌝ }
 {
+    if !used {
+        return blocks::zero();
+    }
     Block {
         a0: t[0],
         a1: t[1],
@@ -28,17 +31,6 @@ fn block(t: &[u32]) -> Block
         a6: t[6],
         a7: t[7],
     }
-}
-
-// The same where the block is used, else zero: the words of an unused block are not read.
-fn block_when(used: bool, t: &[u32]) -> Block
-    requires { ⌜ 8 ≤ length (now t) ⌝ }
-    ensures { λ r. ⌜ r ≡ whenUsed used (blockFrom (now (t .entry))) ⌝ }
-{
-    if used {
-        return block(t);
-    }
-    blocks::zero()
 }
 
 // The state that mark m holds.
@@ -60,11 +52,11 @@ pub fn read(w: Width, marks: &[u32], m: usize) -> State
     let end = i + MARK;
     let t = &marks[i..end];
     State {
-        h0: block(t),
-        h1: block(&t[8..]),
-        h2: block(&t[16..]),
-        h3: block_when(3 < k, &t[24..]),
-        h4: block_when(4 < k, &t[32..]),
+        h0: block(true, t),
+        h1: block(true, &t[8..]),
+        h2: block(true, &t[16..]),
+        h3: block(3 < k, &t[24..]),
+        h4: block(4 < k, &t[32..]),
     }
 }
 

@@ -30,19 +30,16 @@ first-bytes (a ∷ x) (b ∷ d) h l = refl
 
 module _ (code n m : ℕ) (sheet marks claim buffer digest : List ℕ) (h : length claim ≡ bytesAt code)
     (e : digest ≡ overwrite (worked code n sheet marks m .digest) buffer) where
-  size : length claim ≡ length (worked code n sheet marks m .digest)
-  size = h ∙ sym (length-digest code n m sheet marks)
-
   -- a digest that was worked out stands in front of its buffer
   pub in-front : length claim ≤ length digest
   unfolding overwrite
   in-front =
       let d : List ℕ = worked code n sheet marks m .digest in
-      omega (arith, size, ap length e, length-append d (drop (length d) buffer))
+      omega (arith, length-digest code n m sheet marks, ap length e, length-append d (drop (length d) buffer))
 
   -- and is what the claim is compared with
   pub compared : take (length claim) digest ≡ worked code n sheet marks m .digest
   unfolding overwrite
   compared =
       let d : List ℕ = worked code n sheet marks m .digest in
-      ap (take (length claim)) e ∙ take-at d (drop (length d) buffer) (length claim) (sym size)
+      ap (take (length claim)) e ∙ take-at d (drop (length d) buffer) (length claim) (length-digest code n m sheet marks ∙ sym h)

@@ -1,6 +1,6 @@
 -- The work from a mark to the end, group by group: what is left to do from here gives the whole, and the whole is what the definition says.
 -- Assumes nothing.
-use mathlib.Core.Path.{_≡_, refl, sym, ap, _∙_}
+use mathlib.Core.Path.{_≡_, refl, sym, ap, ap₂, _∙_}
 use mathlib.Core.List.{List}
 use Prim.Native.Nat.{ℕ, suc, _+_, _-_, _*_, _/_, _%_, _^_, _<_, _≤_, min}
 use native.Mathlib.Omega.{arith}
@@ -45,27 +45,10 @@ group-there k n sheet h l =
     ∙ ap (take 160) (from-place (160 * k) (40 * n) sheet (omega arith))
 
 -- what is still to come from mark k on: the marks as they will be, and the state with its count after the padded rest
-pub record Ahead : Type 0 where
-  pub marks : List ℕ
-  pub counted : Counted
-
-unfoldable pub ahead : Width → (n : ℕ) → (sheet : List ℕ) → (k : ℕ) → Counted → (marks : List ℕ) → Ahead
+unfoldable pub ahead : Width → (n : ℕ) → (sheet : List ℕ) → (k : ℕ) → Counted → (marks : List ℕ) → List ℕ × Counted
 ahead w n sheet k c marks =
     let x : List ℕ = drop (160 * k) (held n sheet) in
-    record {
-      marks = overwriteAt (40 * (k + 1)) (marksAfter w (q n - k) (blocksIn w (c .state)) x) marks;
-      counted = countedChain w c (blocks (padded closing x));
-    }
-
--- a group's mark, and those after it
-marks-step : (w : Width) (j k : ℕ) (h : List Block) (x marks : List ℕ) → 40 * (k + 1) ≤ length marks
-    → overwriteAt (40 * (k + 1 + 1)) (marksAfter w j (chain w h (blocks (take 160 x))) (drop 160 x))
-    (overwriteAt (40 * (k + 1)) (markOf (chain w h (blocks (take 160 x)))) marks)
-    ≡ overwriteAt (40 * (k + 1)) (marksAfter w (suc j) h x) marks
-unfolding marksAfter
-marks-step w j k h x marks l =
-    let h' : List Block = chain w h (blocks (take 160 x)) in
-    overwriteAt-more (40 * (k + 1)) (40 * (k + 1 + 1)) (markOf h') (marksAfter w j h' (drop 160 x)) marks l (omega (arith, length-mark h'))
+    (overwriteAt (40 * (k + 1)) (marksAfter w (q n - k) (blocksIn w (c .state)) x) marks, countedChain w c (blocks (padded closing x)))
 
 -- a group's rounds, and those after it
 rounds-step : (w : Width) (c : Counted) (x : List ℕ) → 160 ≤ length x
@@ -77,43 +60,37 @@ rounds-step w c x l =
     (sym (blocks-append 5 (take 160 x) (padded closing (drop 160 x)) e)
     ∙ ap blocks (sym (padded-append 5 closing (take 160 x) (drop 160 x) e) ∙ ap (padded closing) (take-append-drop 160 x)))
 
--- before the last mark a group is left
-group-left : (n k : ℕ) (sheet : List ℕ) → k < q n → 40 * n ≤ length sheet → 160 ≤ length (drop (160 * k) (held n sheet))
-unfolding held q
-group-left n k sheet h l = omega (arith, length-drop (160 * k) (take (40 * n) sheet), length-take-le (40 * n) sheet l)
-
 -- one group further on, with its mark written, the same is still to come
 pub group-on : (w : Width) (n k : ℕ) (c d : Counted) (sheet marks marks' : List ℕ) → k < q n → 40 * n ≤ length sheet
     → 40 * (q n + 1) ≤ length marks
     → d ≡ countedChain w c (blocks (take (160 * k + 160 - 160 * k) (drop (160 * k) sheet)))
     → marks' ≡ overwriteAt (40 * (k + 1)) (wordsOfAll (five (d .state))) marks
     → ahead w n sheet (k + 1) d marks' ≡ ahead w n sheet k c marks
-unfolding ahead markOf
+unfolding ahead markOf marksAfter
 group-on w n k c d sheet marks marks' h l r e f =
     let x : List ℕ = drop (160 * k) (held n sheet) in
+    let s : 160 ≤ length x = unfold held q in omega (arith, length-drop (160 * k) (take (40 * n) sheet), length-take-le (40 * n) sheet l) in
     let ms : List Block = blocks (take 160 x) in
+    let h' : List Block = chain w (blocksIn w (c .state)) ms in
     let g : d ≡ countedChain w c ms = e ∙ ap (λ (t : List ℕ). countedChain w c (blocks t)) (group-there k n sheet h l) in
     let y : drop (160 * (k + 1)) (held n sheet) ≡ drop 160 x =
     ap (λ (i : ℕ). drop i (held n sheet)) {x = 160 * (k + 1)} {y = 160 * k + 160} (omega arith) ∙ sym (drop-drop 160 (160 * k) (held n sheet)) in
-    let b : blocksIn w (d .state) ≡ chain w (blocksIn w (c .state)) ms = ap (λ (t : Counted). blocksIn w (t .state)) g ∙ counted-blocks w c ms in
-    let m : marks' ≡ overwriteAt (40 * (k + 1)) (markOf (chain w (blocksIn w (c .state)) ms)) marks =
+    let b : blocksIn w (d .state) ≡ h' = ap (λ (t : Counted). blocksIn w (t .state)) g ∙ counted-blocks w c ms in
+    let m : marks' ≡ overwriteAt (40 * (k + 1)) (markOf h') marks =
     f ∙ ap (λ (s : State). overwriteAt (40 * (k + 1)) (wordsOfAll (five s)) marks) (ap (λ (t : Counted). t .state) g ∙ counted-state w c ms) in
     let j : q n - k ≡ suc (q n - (k + 1)) = omega arith in
-    let p : overwriteAt (40 * (k + 1 + 1)) (marksAfter w (q n - (k + 1)) (blocksIn w (d .state)) (drop (160 * (k + 1)) (held n sheet))) marks'
-    ≡ overwriteAt (40 * (k + 1)) (marksAfter w (q n - k) (blocksIn w (c .state)) x) marks =
-    rw (y, b, m, j) (marks-step w (q n - (k + 1)) k (blocksIn w (c .state)) x marks (omega arith)) in
-    let t : countedChain w d (blocks (padded closing (drop (160 * (k + 1)) (held n sheet)))) ≡ countedChain w c (blocks (padded closing x)) =
-    rw (y, g) (rounds-step w c x (group-left n k sheet h l)) in
-    λ i. record { marks = p i; counted = t i }
+    ap₂ (λ (a : List ℕ) (t : Counted). (a, t))
+    (rw (y, b, m, j)
+    (overwriteAt-more (40 * (k + 1)) (40 * (k + 1 + 1)) (markOf h') (marksAfter w (q n - (k + 1)) h' (drop 160 x)) marks (omega arith) (omega (arith, length-mark h'))))
+    (rw (y, g) (rounds-step w c x s))
 
 -- from the last mark on no mark is written
 nothing-written : (w : Width) (n : ℕ) (h : List Block) (x marks : List ℕ) → 40 * (q n + 1) ≤ length marks
     → overwriteAt (40 * (q n + 1)) (marksAfter w (q n - q n) h x) marks ≡ marks
 unfolding marksAfter
 nothing-written w n h x marks r =
-    let i : ℕ = 40 * (q n + 1) in
     let j : q n - q n ≡ 0 = omega arith in
-    rw j (overwriteAt-none i marks r)
+    rw j (overwriteAt-none (40 * (q n + 1)) marks r)
 
 -- so the check leaves the marks
 pub check-leaves : (code n : ℕ) (sheet marks : List ℕ) → 40 * (q n + 1) ≤ length marks → worked code n sheet marks (q n) .marks ≡ marks
@@ -161,13 +138,13 @@ module _ (code n m before : ℕ) (sheet marks out : List ℕ) (s : State) (k : �
       a
       ∙ ap (λ (x : List ℕ). countedChain w c (blocks (padded closing x))) (from-place (160 * (n / 4)) (40 * n) sheet (omega arith))
       ∙ ap (λ (i : ℕ). countedChain w c (blocks (padded closing (drop (160 * i) (take (40 * n) sheet))))) (sym g)
-      ∙ ap (λ (t : Ahead). t .counted) f
+      ∙ ap (λ (t : List ℕ × Counted). t .1) f
 
   marks-worked : 40 * (q n + 1) ≤ length marks' → marks' ≡ worked code n sheet marks m .marks
   unfolding worked ahead
   marks-worked r =
       sym (nothing-written w n (blocksIn w (c .state)) (drop (160 * q n) (held n sheet)) marks' r)
-      ∙ ap (λ (t : Ahead). t .marks) (ap (λ (i : ℕ). ahead w n sheet i c marks') (sym g) ∙ f)
+      ∙ ap (λ (t : List ℕ × Counted). t .0) (ap (λ (i : ℕ). ahead w n sheet i c marks') (sym g) ∙ f)
       ∙ rw found
 
   abbrev pub words : ℕ

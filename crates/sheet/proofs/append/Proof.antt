@@ -1,65 +1,53 @@
 -- `sheet::append` meets its contract: refused by its other arguments, or a save.
 -- Assumes nothing.
-use mathlib.Core.Path.{_∙_}
+use mathlib.Core.Path.{sym, _∙_}
+use mathlib.Core.Bool.{false}
 use native.Mathlib.Omega.{arith}
 use denote.Ref.{now}
 use borrow.Author.Needs.{needs}
-use lib.ListN.{length}
 use Rattle.sheet_definition.specs.Run.{World, Call, call, claimOf, outOf, placeOf, countOf, refusalsOf}
 use Rattle.sheet_definition.specs.Run.Call.{Append}
-use Rattle.sheet_definition.proofs.Saves.{recordOf}
+use Rattle.sheet_definition.proofs.Saves.{recordOf, valid}
 use Rattle.sheet_definition.proofs.Answers.{refused-first}
-use Rattle.sheet.proofs.Saved.{fine, judged, saved}
+use Rattle.sheet.proofs.Saved.{judged, saved}
 use Rattle.sheet.proofs.append.Statement.{statement}
 use Rattle.sheet.proofs.append.Tie as tie
 
--- the entry, from the judge; the sheet as it was lent, and the call
-abbrev entered : tie.After-append → tie.Start
-entered c = c .before .before .before .before .before .before
+-- the sheet as it was lent, and the call
+abbrev lent : tie.After-append → World
+lent j =
+    let a = j .before .before .before .before .before .before .args in
+    record { code = a .code; n = a .n; sheet = now (a .sheet); marks = now (a .marks) }
 
-abbrev lent : tie.Start → World
-lent s = record { code = s .args .code; n = s .args .n; sheet = now (s .args .sheet); marks = now (s .args .marks) }
-
-abbrev asked : tie.Start → Call
-asked s = Append (now (s .args .«record»)) (now (s .args .claim)) (now (s .args .out))
+abbrev asked : tie.After-append → Call
+asked j =
+    let a = j .before .before .before .before .before .before .args in
+    Append (now (a .«record»)) (now (a .claim)) (now (a .out))
 
 returns : tie.Need-returns
 unfolding call refusalsOf outOf
-returns c =
-    let s = entered (c .before) in
-    refused-first (lent s) (asked s) _ (c .before .append .ensures) (c .if1 .taken)
+returns c = refused-first (lent (c .before)) (asked (c .before)) _ (c .before .append .ensures) (c .if1 .taken)
 
 add-save : tie.Need-add-save
 unfolding refusalsOf placeOf countOf
 add-save c =
     let e = c .before .before in
-    let s = entered (e .before) in
-    omega (arith, fine (lent s) (asked s) (e .before .append .ensures) (e .if1 .left) .new-count)
+    omega (arith, valid (lent (e .before)) (asked (e .before)) false (sym (e .before .append .ensures) ∙ e .if1 .left) .new-count)
 
 save-requires : tie.Need-save-requires
 unfolding refusalsOf claimOf outOf placeOf countOf recordOf
 save-requires c κs =
     let e = c .before .before .before in
-    let s = entered (e .before) in
-    judged (lent s) (asked s) (e .before .append .ensures) (e .if1 .left)
+    judged (lent (e .before)) (asked (e .before)) (sym (e .before .append .ensures) ∙ e .if1 .left)
 
 returns-2 : tie.Need-returns-2
 unfolding call refusalsOf claimOf outOf placeOf countOf recordOf
 returns-2 c =
-    let k = c .before .before .before .before .before .before in
-    let e = k .before .before .before .before in
-    let s = entered (e .before) in
-    k .save .ensures ∙ saved (lent s) (asked s) (e .before .append .ensures) (e .if1 .left)
+    let s = c .before .before .before .before .before .before in
+    let e = s .before .before .before .before in
+    s .save .ensures ∙ saved (lent (e .before)) (asked (e .before)) (sym (e .before .append .ensures) ∙ e .if1 .left)
 
 pub append-spec : {M : Type 1} → statement M
 append-spec =
     tie.close
-    (tie.spec
-    (λ c κs. tt)
-    returns
-    add-save
-    save-requires
-    (λ c. search needs)
-    (λ c. search needs)
-    (λ c. search needs)
-    returns-2)
+    (tie.spec (λ c κs. tt) returns add-save save-requires (λ c. search needs) (λ c. search needs) (λ c. search needs) returns-2)

@@ -1,6 +1,6 @@
 -- `sheet::build` meets its contract: refused, or put together from mark 0 and the work.
 -- Assumes nothing.
-use mathlib.Core.Path.{_≡_, sym, ap, _∙_}
+use mathlib.Core.Path.{sym, ap, _∙_}
 use mathlib.Core.List.{[]}
 use native.Mathlib.Omega.{arith}
 use denote.Ref.{now}
@@ -10,7 +10,6 @@ use Rattle.definition.specs.declared.State.{State}
 use Rattle.definition.specs.State.{five}
 use Rattle.definition.specs.Buffer.{overwrite}
 use Rattle.definition.specs.Block.{wordsOfAll}
-use Rattle.definition.specs.Refusal.{firstOf}
 use Rattle.sheet_definition.specs.Sheet.{buildRefusals}
 use Rattle.sheet_definition.specs.Marks.{markOf}
 use Rattle.definition.proofs.Buffer.{overwrite-front}
@@ -61,13 +60,5 @@ returns-2 c =
 pub build-spec : {M : Type 1} → statement M
 build-spec =
     tie.close
-    (tie.spec
-    (λ c κs. tt)
-    returns
-    (λ c κs. tt)
-    (λ c κs. tt)
-    (λ c κs. tt)
-    work-on-requires
-    (λ c. search needs)
-    (λ c. search needs)
+    (tie.spec (λ c κs. tt) returns (λ c κs. tt) (λ c κs. tt) (λ c κs. tt) work-on-requires (λ c. search needs) (λ c. search needs)
     returns-2)

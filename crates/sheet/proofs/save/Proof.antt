@@ -16,11 +16,6 @@ use Rattle.sheet.proofs.save.Tie as tie
 abbrev entered : tie.After-check → tie.Start
 entered k = k .before .before .before .before .before .before .before .before
 
-check-requires : tie.Need-check-requires
-check-requires c κs =
-    let j = c .before .before .before .before .before .before .before .pre in
-    (j .few, j .sheet-room, j .marks-room, j .claim-size)
-
 returns : tie.Need-returns
 returns c =
     let k = c .before .before .before in
@@ -66,16 +61,6 @@ returns-2 c =
 pub save-spec : {M : Type 1} → statement M
 save-spec =
     tie.close
-    (tie.spec
-    check-requires
-    (λ c. search needs)
-    (λ c. search needs)
-    returns
-    (λ c. search needs)
-    (λ c κs. tt)
-    (λ c κs. tt)
-    work-on-requires
-    (λ c. search needs)
-    (λ c. search needs)
-    (λ c. search needs)
-    returns-2)
+    (tie.spec (λ c κs. let j = c .before .before .before .before .before .before .before .pre in (j .few, j .sheet-room, j .marks-room, j .claim-size))
+    (λ c. search needs) (λ c. search needs) returns (λ c. search needs) (λ c κs. tt) (λ c κs. tt) work-on-requires
+    (λ c. search needs) (λ c. search needs) (λ c. search needs) returns-2)

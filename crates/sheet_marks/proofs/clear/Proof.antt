@@ -1,7 +1,6 @@
 -- `sheet_marks::clear` meets its contract: mark q is zeroed where records become fewer and r = 0, else nothing.
 -- Assumes nothing.
 use mathlib.Core.Path.{refl}
-use mathlib.Core.Bool.{_&&_}
 use native.Mathlib.Omega.{arith}
 use borrow.Author.Needs.{needs}
 use borrow.Author.Tests.{lt-ltb, le-ltb, eq-eqb, ne-eqb}

@@ -20,23 +20,12 @@ Inv-loop marks₀ m ws i j₀ marks j =
 abbrev μ-loop : tie.MeasureT-loop
 μ-loop marks₀ m ws i j₀ marks j = 40 - j
 
-returns : tie.Need-returns Inv-loop μ-loop
-returns c = sym (write-not _ _ _ (omega arith))
-
-loop-holds : tie.Need-loop-holds Inv-loop μ-loop
-loop-holds c =
-    let a = c .before .args in
-    (omega arith, (omega arith, omega arith, omega arith), paste-zero (now (a .marks)) (40 * a .m) (now (a .ws)))
-
 -- the marks keep their length while words are copied
 kept : (c : tie.At-loop Inv-loop μ-loop) → length (c .loop .marks) ≡ length (now (c .before .before .args .marks))
 kept c =
     let a = c .before .before .args in
     let l = c .loop in
     pasted-length (l .marks) (now (a .marks)) (now (a .ws)) (40 * a .m) (l .j) (omega arith) (omega arith) (l .inv .2)
-
-slice-write-marks : tie.Need-slice-write-marks Inv-loop μ-loop
-slice-write-marks c = omega (arith, kept (c .before .before))
 
 loop-again : tie.Need-loop-again Inv-loop μ-loop
 loop-again c =
@@ -59,19 +48,7 @@ returns-2 c =
 pub put-spec : {M : Type 1} → statement M
 put-spec =
     tie.close
-    (tie.spec
-    Inv-loop
-    μ-loop
-    returns
-    (λ c. omega arith)
-    loop-holds
-    (λ c. omega arith)
-    (λ c. omega arith)
-    (λ c. omega arith)
-    (λ c. omega arith)
-    slice-write-marks
-    (λ c. omega arith)
-    (λ c. omega arith)
-    loop-again
-    (λ c. kept (c .before))
-    returns-2)
+    (tie.spec Inv-loop μ-loop (λ c. sym (write-not _ _ _ (omega arith))) (λ c. omega arith)
+    (λ c. let a = c .before .args in (omega arith, (omega arith, omega arith, omega arith), paste-zero (now (a .marks)) (40 * a .m) (now (a .ws))))
+    (λ c. omega arith) (λ c. omega arith) (λ c. omega arith) (λ c. omega arith) (λ c. omega (arith, kept (c .before .before)))
+    (λ c. omega arith) (λ c. omega arith) loop-again (λ c. kept (c .before)) returns-2)

@@ -49,6 +49,4 @@ returns c =
     )
 
 pub check-spec : {M : Type 1} → statement M
-check-spec =
-    tie.close
-    (tie.spec (λ c. search needs) work-on-requires (λ c. search needs) differs-requires (λ c. search needs) returns)
+check-spec = tie.close (tie.spec (λ c. search needs) work-on-requires (λ c. search needs) differs-requires (λ c. search needs) returns)

@@ -18,20 +18,12 @@ Inv-loop claim digest t₀ d₀ t d = (length t ≤ length d) × (front t d ≡ 
 abbrev μ-loop : tie.MeasureT-loop
 μ-loop claim digest t₀ d₀ t d = length t
 
-loop-holds : tie.Need-loop-holds Inv-loop μ-loop
-loop-holds c = (omega arith, refl)
-
 returns : tie.Need-returns Inv-loop μ-loop
 returns c =
     let l = c .before .before .before .before .loop in
     let e : front (now (l .t)) (now (l .d)) ≡ false =
     first-bytes (now (l .t)) (now (l .d)) (omega arith) (omega arith) ∙ rw (ne-eqb _ _ (c .if1 .taken)) in
     ap not (sym e ∙ l .inv .1)
-
-loop-less : tie.Need-loop-less Inv-loop μ-loop
-loop-less c =
-    let t = now (c .before .before .before .before .before .before .loop .t) in
-    omega (arith, ap length (part-rest 1 t), length-drop 1 t)
 
 loop-again : tie.Need-loop-again Inv-loop μ-loop
 loop-again c =
@@ -52,19 +44,7 @@ returns-2 c =
 pub differs-spec : {M : Type 1} → statement M
 differs-spec =
     tie.close
-    (tie.spec
-    Inv-loop
-    μ-loop
-    loop-holds
-    (λ c. omega arith)
-    (λ c. omega arith)
-    returns
-    (λ c. omega arith)
-    (λ c. omega arith)
-    (λ c. omega arith)
-    (λ c. omega arith)
-    (λ c. omega arith)
-    (λ c. omega arith)
-    loop-less
-    loop-again
-    returns-2)
+    (tie.spec Inv-loop μ-loop (λ c. (omega arith, refl)) (λ c. omega arith) (λ c. omega arith) returns (λ c. omega arith) (λ c. omega arith)
+    (λ c. omega arith) (λ c. omega arith) (λ c. omega arith) (λ c. omega arith)
+    (λ c. let t = now (c .before .before .before .before .before .before .loop .t) in omega (arith, ap length (part-rest 1 t), length-drop 1 t))
+    loop-again returns-2)
