@@ -36,7 +36,7 @@ save-requires : tie.Need-save-requires
 unfolding refusalsOf claimOf outOf placeOf countOf recordOf
 save-requires c κs =
     let e = c .before .before .before .before in
-    judged (lent (e .before)) (asked (e .before)) (sym (e .before .drop .ensures) ∙ e .if1 .left)
+    omega (arith, judged (lent (e .before)) (asked (e .before)) (sym (e .before .drop .ensures) ∙ e .if1 .left))
 
 returns-2 : tie.Need-returns-2
 unfolding call refusalsOf claimOf outOf placeOf countOf recordOf

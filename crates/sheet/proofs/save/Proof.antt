@@ -37,7 +37,7 @@ work-on-requires c κs =
       omega (arith, j .new-sheet-room, ap length (p .put-bytes .ensures) ∙ length-writeAt _ _ _),
       omega (arith, j .new-marks-room, ap length (d .1), m .clear .kept .0),
       omega (arith, j .in-groups),
-      few-rounds (a .code) (a .n) (now (a .sheet)) (now (a .marks)) (now (a .claim)) _ (d .0) (j .sheet-room),
+      omega (arith, few-rounds (a .code) (a .n) (now (a .sheet)) (now (a .marks)) (now (a .claim)) _ (d .0) (j .sheet-room)),
       j .out-room,
     )
 

@@ -32,6 +32,7 @@ returns-2 c =
     let a = k .before .before .before .args in
     let marks = now (a .marks) in
     let t = take (40 * a .m + 40 - 40 * a .m) (drop (40 * a .m) marks) in
+    _∙_ {b = found (a .w) t}
     (λ i. record {
       h0 = d1 .block .ensures i;
       h1 = (rw (part-rest 8 t) at (d2 .block2 .ensures)) i;
@@ -39,8 +40,8 @@ returns-2 c =
       h3 = (rw (part-rest 24 t, k .count .ensures) at (d4 .block4 .ensures)) i;
       h4 = (rw (part-rest 32 t, k .count .ensures) at (c .block5 .ensures)) i;
     })
-    ∙ ap (λ (n : ℕ). found (a .w) (take n (drop (40 * a .m) marks))) {x = 40 * a .m + 40 - 40 * a .m} {y = 40} (omega arith)
-    ∙ found-at marks (a .m) (omega arith) (a .w)
+    (ap (λ (n : ℕ). found (a .w) (take n (drop (40 * a .m) marks))) {x = 40 * a .m + 40 - 40 * a .m} {y = 40} (omega arith)
+    ∙ found-at marks (a .m) (omega arith) (a .w))
 
 pub read-spec : {M : Type 1} → statement M
 read-spec =
