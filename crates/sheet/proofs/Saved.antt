@@ -14,7 +14,7 @@ use Rattle.definition.specs.Final.{finalRounds}
 use Rattle.definition.specs.Refusal.{STALE, pick, firstOf, whenDone}
 use Rattle.sheet_definition.specs.Sheet.{q, r, F, checkRounds, buildRefusals}
 use Rattle.sheet_definition.specs.Marks.{markOf, worked}
-use Rattle.sheet_definition.specs.SheetCalls.{refusedWith, acceptedWith, sheetOutcome, checked, stale, buildOutcome}
+use Rattle.sheet_definition.specs.SheetCalls.{SheetOutcome, refusedWith, acceptedWith, sheetOutcome, checked, stale, buildOutcome}
 use Rattle.sheet_definition.specs.Run.{World, Call, call, claimOf, outOf, placeOf, countOf, refusalsOf}
 use Rattle.sheet_definition.specs.Run.Call.{Change, Append, Drop}
 use Rattle.definition.proofs.Codes.{words-le}
@@ -60,20 +60,21 @@ marks-cleared w (Append x claim out) v = cleared-none (w .n) (w .n + 1) (w .mark
 marks-cleared w (Drop claim out) v = cleared-fewer (w .n) _ (w .marks) (omega arith) (v .marks-room)
 
 -- a call whose other arguments are judged is a save
-module _ (w : World) (c : Call) (e : firstOf (refusalsOf w c false) ≡ 0) where
+module _ (w : World) (c : Call) {k : ℕ} (e : k ≡ firstOf (refusalsOf w c false)) (z : k ≡ 0) where
   pub judged : Judged (w .code) (length (w .sheet)) (w .n) (length (w .marks)) (placeOf w c) (length (recordOf c)) (countOf w c)
       (length (claimOf c)) (length (outOf c))
-  judged = omega (arith, valid w c false e)
+  judged = omega (arith, valid w c false (sym e ∙ z))
 
   by-claim : (b : Bool) → staleOf w c ≡ b
       → whenStale b (refusedWith STALE (w .n) (checkOf w) (w .sheet) (w .marks) (outOf c)) (acceptedOf w c) ≡ call w c
   unfolding whenStale
-  by-claim true f = stale-first w c e f
-  by-claim false f = accepted-first w c e f
+  by-claim true f = stale-first w c (sym e ∙ z) f
+  by-claim false f = accepted-first w c (sym e ∙ z) f
 
-  pub saved : saveOutcome (w .code) (w .sheet) (w .n) (w .marks) (placeOf w c) (recordOf c) (countOf w c) (claimOf c) (outOf c) ≡ call w c
+  pub saved : {o : SheetOutcome}
+      → o ≡ saveOutcome (w .code) (w .sheet) (w .n) (w .marks) (placeOf w c) (recordOf c) (countOf w c) (claimOf c) (outOf c) → o ≡ call w c
   unfolding saveOutcome
-  saved = rw (marks-cleared w c (valid w c false e)) (by-claim (staleOf w c) refl)
+  saved h = rw (h, marks-cleared w c (valid w c false (sym e ∙ z))) (by-claim (staleOf w c) refl)
 
 either-none : (b : Bool) → pick b 0 0 ≡ 0
 unfolding pick
@@ -90,9 +91,9 @@ module _ (code : ℕ) (sheet : List ℕ) (n : ℕ) (marks out : List ℕ) where
       (λ o. record { answer = record { number = k; count = n; rounds = 0 }; sheet = sheet; marks = marks; out = out } ≡ o)
       (λ z. absurd (h (e ∙ z))) (λ j f. rw (e ∙ f, either-none (eqb (suc j) STALE)))
 
-  pub build-together : (rounds : ℕ) (marks₀ marks' out' : List ℕ) → firstOf (buildRefusals code (length sheet) n (length marks) (length out)) ≡ 0
+  pub build-together : (k rounds : ℕ) (marks₀ marks' out' : List ℕ) → k ≡ firstOf (buildRefusals code (length sheet) n (length marks) (length out)) → k ≡ 0
       → marks₀ ≡ overwrite (markOf (start (widthAt code))) marks → rounds ≡ 0 + worked code n sheet marks₀ 0 .rounds
       → marks' ≡ worked code n sheet marks₀ 0 .marks → out' ≡ overwrite (worked code n sheet marks₀ 0 .digest) out
       → record { answer = record { number = 0; count = n; rounds = rounds }; sheet = sheet; marks = marks'; out = out' } ≡ buildOutcome code sheet n marks out
   unfolding buildOutcome sheetOutcome whenDone acceptedWith
-  build-together rounds marks₀ marks' out' e z r m o = rw (e, r, m, o, z)
+  build-together k rounds marks₀ marks' out' e f z r m o = rw (sym e ∙ f, r, m, o, z)

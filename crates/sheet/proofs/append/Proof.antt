@@ -1,13 +1,11 @@
 -- `sheet::append` meets its contract: refused by its other arguments, or a save.
 -- Assumes nothing.
-use mathlib.Core.Path.{sym, _∙_}
-use mathlib.Core.Bool.{false}
 use native.Mathlib.Omega.{arith}
 use denote.Ref.{now}
 use borrow.Author.Needs.{needs}
 use Rattle.sheet_definition.specs.Run.{World, Call, call, claimOf, outOf, placeOf, countOf, refusalsOf}
 use Rattle.sheet_definition.specs.Run.Call.{Append}
-use Rattle.sheet_definition.proofs.Saves.{recordOf, valid}
+use Rattle.sheet_definition.proofs.Saves.{recordOf}
 use Rattle.sheet_definition.proofs.Answers.{refused-first}
 use Rattle.sheet.proofs.Saved.{judged, saved}
 use Rattle.sheet.proofs.append.Statement.{statement}
@@ -32,20 +30,20 @@ add-save : tie.Need-add-save
 unfolding refusalsOf placeOf countOf
 add-save c =
     let e = c .before .before in
-    omega (arith, valid (lent (e .before)) (asked (e .before)) false (sym (e .before .append .ensures) ∙ e .if1 .left) .new-count)
+    omega (arith, judged (lent (e .before)) (asked (e .before)) (e .before .append .ensures) (e .if1 .left) .new-few)
 
 save-requires : tie.Need-save-requires
 unfolding refusalsOf claimOf outOf placeOf countOf recordOf
 save-requires c κs =
     let e = c .before .before .before in
-    judged (lent (e .before)) (asked (e .before)) (sym (e .before .append .ensures) ∙ e .if1 .left)
+    judged (lent (e .before)) (asked (e .before)) (e .before .append .ensures) (e .if1 .left)
 
 returns-2 : tie.Need-returns-2
 unfolding call refusalsOf claimOf outOf placeOf countOf recordOf
 returns-2 c =
     let s = c .before .before .before .before .before .before in
     let e = s .before .before .before .before in
-    s .save .ensures ∙ saved (lent (e .before)) (asked (e .before)) (sym (e .before .append .ensures) ∙ e .if1 .left)
+    saved (lent (e .before)) (asked (e .before)) (e .before .append .ensures) (e .if1 .left) (s .save .ensures)
 
 pub append-spec : {M : Type 1} → statement M
 append-spec =

@@ -50,7 +50,7 @@ returns-2 c =
     let a = entered (e .before) .args in
     let marks = now (a .marks) in
     let h = rw (s .before .width .ensures) at (s .start .ensures) in
-    build-together (a .code) (now (a .sheet)) (a .n) marks (now (a .out)) _ _ _ _ (sym (e .before .build .ensures) ∙ e .if1 .left)
+    build-together (a .code) (now (a .sheet)) (a .n) marks (now (a .out)) _ _ _ _ _ (e .before .build .ensures) (e .if1 .left)
     (w .write .ensures
     ∙ written-at marks 0 (omega (arith, fine e .marks-room)) (s .start .result)
     ∙ overwrite-front _ _

@@ -1,6 +1,5 @@
 -- `sheet::change` meets its contract: refused by its other arguments, or a save.
 -- Assumes nothing.
-use mathlib.Core.Path.{sym, _∙_}
 use denote.Ref.{now}
 use borrow.Author.Needs.{needs}
 use Rattle.sheet_definition.specs.Run.{World, Call, call, claimOf, outOf, placeOf, countOf, refusalsOf}
@@ -30,14 +29,14 @@ save-requires : tie.Need-save-requires
 unfolding refusalsOf claimOf outOf placeOf countOf recordOf
 save-requires c κs =
     let e = c .before .before .before in
-    judged (lent (e .before)) (asked (e .before)) (sym (e .before .change .ensures) ∙ e .if1 .left)
+    judged (lent (e .before)) (asked (e .before)) (e .before .change .ensures) (e .if1 .left)
 
 returns-2 : tie.Need-returns-2
 unfolding call refusalsOf claimOf outOf placeOf countOf recordOf
 returns-2 c =
     let s = c .before .before .before .before .before .before in
     let e = s .before .before .before .before in
-    s .save .ensures ∙ saved (lent (e .before)) (asked (e .before)) (sym (e .before .change .ensures) ∙ e .if1 .left)
+    saved (lent (e .before)) (asked (e .before)) (e .before .change .ensures) (e .if1 .left) (s .save .ensures)
 
 pub change-spec : {M : Type 1} → statement M
 change-spec = tie.close (tie.spec (λ c κs. tt) returns save-requires (λ c. search needs) (λ c. search needs) (λ c. search needs) returns-2)

@@ -36,14 +36,14 @@ save-requires : tie.Need-save-requires
 unfolding refusalsOf claimOf outOf placeOf countOf recordOf
 save-requires c κs =
     let e = c .before .before .before .before in
-    omega (arith, judged (lent (e .before)) (asked (e .before)) (sym (e .before .drop .ensures) ∙ e .if1 .left))
+    omega (arith, judged (lent (e .before)) (asked (e .before)) (e .before .drop .ensures) (e .if1 .left))
 
 returns-2 : tie.Need-returns-2
 unfolding call refusalsOf claimOf outOf placeOf countOf recordOf
 returns-2 c =
     let s = c .before .before .before .before .before .before in
     let e = s .before .before .before .before .before in
-    s .save .ensures ∙ saved (lent (e .before)) (asked (e .before)) (sym (e .before .drop .ensures) ∙ e .if1 .left)
+    saved (lent (e .before)) (asked (e .before)) (e .before .drop .ensures) (e .if1 .left) (s .save .ensures)
 
 pub drop-spec : {M : Type 1} → statement M
 drop-spec =
