@@ -5,7 +5,7 @@ use mathlib.Core.List.{List, _∷_}
 use Prim.Native.Nat.{ℕ}
 use Rattle.definition.specs.Refusal.{Refusal, firstOf, widthRefusal, outRefusal}
 use Rattle.sheet_definition.specs.Sheet.{sheetRefusal, marksRefusal, buildRefusals}
-use Rattle.definition.proofs.Refusals.{Numbered, none, more, front-given, rest-given}
+use Rattle.definition.proofs.Refusals.{none, more, front-given, rest-given}
 
 module _ (code sheet n marks out : ℕ) (ss : List Refusal) {k : ℕ} (e : k ≡ firstOf (buildRefusals code sheet n marks out)) where
   abbrev all : List Refusal

@@ -12,7 +12,7 @@ use Rattle.definition.specs.declared.State.{State}
 use Rattle.definition.specs.declared.Width.{Width}
 use Rattle.definition.specs.declared.Width.the-variants.{W3, W4, W5}
 use Rattle.definition.specs.Word.{bytesOfAll}
-use Rattle.definition.specs.Block.{zeroBlock, wordsOf, wordsOfAll}
+use Rattle.definition.specs.Block.{zeroBlock, wordsOfAll}
 use Rattle.definition.specs.Round.{chain}
 use Rattle.definition.specs.Padding.{closing, padded, blocks}
 use Rattle.definition.specs.Start.{blockCount}
