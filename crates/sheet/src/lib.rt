@@ -5,8 +5,8 @@ ghost use lib.ListN.{length};
 ghost use Rattle.sheet_definition.specs.SheetCalls.{buildOutcome, changeOutcome, appendOutcome, dropOutcome};
 ghost use Rattle.sheet.specs.Save.{Judged, saveOutcome};
 use sheet_definition::Answer;
+use sheet_definition::RECORD;
 use sheet_judge::DONE;
-use sheet_judge::RECORD;
 use sheet_judge::STALE;
 
 // All marks of a sheet, and its digest.

@@ -5,6 +5,9 @@ ghost use mathlib.Core.Bool.{false};
 ghost use mathlib.Core.List.{[], _∷_};
 ghost use Rattle.definition.specs.Refusal.{STALE as STALE', firstOf};
 ghost use Rattle.sheet_definition.specs.Sheet.{sizeRefusal, claimRefusal, buildRefusals, changeRefusals, appendRefusals, dropRefusals};
+use sheet_definition::MARK;
+use sheet_definition::MOST;
+use sheet_definition::RECORD;
 
 // The refusal numbers of document 01.
 pub const DONE: u64 = 0;
@@ -26,13 +29,6 @@ pub const SIZE: u64 = 9;
 pub const CLAIM: u64 = 10;
 
 pub const STALE: u64 = 11;
-
-// The most records of a sheet, the bytes of a record and the words of a mark.
-pub const MOST: usize = 1024;
-
-pub const RECORD: usize = 40;
-
-pub const MARK: usize = 40;
 
 // The four refusals that every call begins with. n is held to the most before it is multiplied.
 pub fn build(code: usize, sheet: usize, n: usize, marks: usize, out: usize) -> u64

@@ -11,7 +11,7 @@ ghost use Rattle.sheet_marks.specs.Total.{whenUsed, stateAt, cleared};
 use definition::Block;
 use definition::State;
 use definition::Width;
-use sheet_judge::MARK;
+use sheet_definition::MARK;
 
 // The first eight words of a slice where the block is used, else zero: the words of an unused block are not read.
 fn block(used: bool, t: &[u32]) -> Block

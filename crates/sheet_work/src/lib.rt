@@ -45,7 +45,7 @@ pub fn work_on(
         sheet_marks::write(marks, k, c.state);
     }
     let at = GROUP * last;
-    let end = sheet_judge::RECORD * n;
+    let end = sheet_definition::RECORD * n;
     let d = rounds::last::absorb_last(w, c, &sheet[at..end]);
     let e = squeeze::squeeze(w, d, codes::words(code), out);
     e.rounds
