@@ -1,10 +1,11 @@
 // A mark: 40 words that hold a state (document 01, "Sheet and marks"). Marks that are too short read as zero, and nothing is written where
 // there is no room.
 ghost use mathlib.Core.Path.{_≡_};
+ghost use mathlib.Core.List.{[]};
 ghost use Prim.Native.Nat.{_*_, _≤_};
 ghost use lib.ListN.{length};
 ghost use Rattle.definition.specs.Block.{wordsOfAll};
-ghost use Rattle.definition.specs.State.{five};
+ghost use Rattle.definition.specs.State.{five, stateOf};
 ghost use Rattle.sheet_definition.specs.Marks.{blockFrom};
 ghost use Rattle.bytes.specs.Total.{writeAt};
 ghost use Rattle.sheet_marks.specs.Total.{whenUsed, stateAt, cleared};
@@ -12,6 +13,20 @@ use definition::Block;
 use definition::State;
 use definition::Width;
 use sheet_definition::MARK;
+
+// The state of zeros.
+fn zeros() -> State
+    ensures { λ r. ⌜ r ≡ stateOf [] ⌝ }
+{
+    let zero = blocks::zero();
+    State {
+        h0: zero,
+        h1: zero,
+        h2: zero,
+        h3: zero,
+        h4: zero,
+    }
+}
 
 // The first eight words of a slice where the block is used, else zero: the words of an unused block are not read.
 fn block(used: bool, t: &[u32]) -> Block
@@ -38,14 +53,7 @@ pub fn read(w: Width, marks: &[u32], m: usize) -> State
     ensures { λ r. ⌜ r ≡ stateAt w (now (marks .entry)) m ⌝ }
 {
     if marks.len() / MARK <= m {
-        let zero = blocks::zero();
-        return State {
-            h0: zero,
-            h1: zero,
-            h2: zero,
-            h3: zero,
-            h4: zero,
-        };
+        return zeros();
     }
     let k = blocks::count(w);
     let i = MARK * m;
@@ -140,5 +148,5 @@ pub fn clear(marks: &mut [u32], n: usize, count: usize)
     if n % 4 != 0 {
         return;
     }
-    put(marks, n / 4, &[0u32; 40]);
+    write(marks, n / 4, zeros());
 }

@@ -7,7 +7,6 @@ use denote.Ref.{now}
 use borrow.Author.Needs.{needs}
 use borrow.Author.Tests.{lt-leb}
 use lib.ListN.{length, take, drop}
-use Rattle.definition.specs.State.{stateOf}
 use Rattle.sheet_definition.specs.Marks.{markAt}
 use Rattle.bytes.proofs.Parts.{part-rest}
 use Rattle.sheet_marks.specs.Total.{whenUsed, stateWhen, stateAt}
@@ -16,10 +15,10 @@ use Rattle.sheet_marks.proofs.read.Statement.{statement}
 use Rattle.sheet_marks.proofs.read.Tie as tie
 
 returns : tie.Need-returns
-unfolding stateAt stateWhen stateOf
+unfolding stateAt stateWhen
 returns c =
     let a = c .before .before .before .args in
-    rw (lt-leb (40 * (a .m + 1)) (length (now (a .marks))) (omega arith), c .zero .ensures)
+    rw (lt-leb (40 * (a .m + 1)) (length (now (a .marks))) (omega arith), c .zeros .ensures)
 
 returns-2 : tie.Need-returns-2
 unfolding found markAt whenUsed
