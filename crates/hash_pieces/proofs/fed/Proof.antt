@@ -1,8 +1,8 @@
 -- `hash_pieces::fed` meets its contract: a piece stays pending, or completes the pending block and goes on from its middle.
 -- Assumes nothing.
-use mathlib.Core.Path.{_≡_, sym, ap}
+use mathlib.Core.Path.{_≡_, sym, ap, _∙_}
 use mathlib.Core.List.{List}
-use Prim.Native.Nat.{ℕ, _-_, _*_, _/_, _%_, _≤_}
+use Prim.Native.Nat.{ℕ, _+_, _-_, _*_, _/_, _%_, _≤_}
 use native.Mathlib.Omega.{arith}
 use denote.Ref.{now}
 use borrow.Author.Needs.{needs}
@@ -26,9 +26,13 @@ returns c =
     let w = c .before .before .before .before .before .before .before in
     let start = w .before .before in
     let k = start .args .k in
+    let piece = now (start .args .piece) in
     let l = pending start in
-    rw (c .pasted .ensures, write-at (k .count % 32) (now (start .args .piece)) (k .pending) (omega arith), c .before .used .ensures, w .width .ensures)
-    (stays k (now (start .args .piece)) l (start .pre .0) (c .before .before .if1 .taken))
+    -- what is returned: the state as it was, and the piece behind the pending bytes
+    let s = rw (w .width .ensures) at (c .before .used .ensures) in
+    let p = c .pasted .ensures ∙ write-at (k .count % 32) piece (k .pending) (omega arith) in
+    (λ i. record { code = k .code; state = s i; pending = p i; count = k .count + length piece })
+    ∙ stays k piece l (start .pre .0) (c .before .before .if1 .taken)
 
 -- the front of a piece that completes the pending block
 front-length : (piece : List ℕ) (pos : ℕ) → 32 - pos ≤ length piece → length (take ((32 - pos) % 32) piece) ≡ (32 - pos) % 32
