@@ -1,8 +1,9 @@
-// Blocks and states as every part above handles them: the block of zeros, XOR, the blocks that w uses, and the number w (source, 2.2 and 3.2).
+// Blocks and states as every part above handles them: the block of zeros, XOR, the blocks that w uses, the number w,
+// and the words of a state (source, 2.2 and 3.2).
 ghost use mathlib.Core.Path.{_≡_};
-ghost use Rattle.definition.specs.Block.{zeroBlock, _⊕_};
+ghost use Rattle.definition.specs.Block.{zeroBlock, _⊕_, wordsOfAll};
 ghost use Rattle.definition.specs.Start.{blockCount};
-ghost use Rattle.definition.specs.State.{blocksIn, stateOf};
+ghost use Rattle.definition.specs.State.{five, blocksIn, stateOf};
 use definition::Block;
 use definition::State;
 use definition::Width;
@@ -76,4 +77,57 @@ pub fn count(w: Width) -> usize
         Width::W4 => 4,
         Width::W5 => 5,
     }
+}
+
+// The words of all five blocks, one block after the other.
+pub fn words(s: State) -> [u32; 40]
+    ensures { λ r. ⌜ r ≡ wordsOfAll (five s) ⌝ }
+{
+    let h0 = s.h0;
+    let h1 = s.h1;
+    let h2 = s.h2;
+    let h3 = s.h3;
+    let h4 = s.h4;
+    [
+        h0.a0,
+        h0.a1,
+        h0.a2,
+        h0.a3,
+        h0.a4,
+        h0.a5,
+        h0.a6,
+        h0.a7,
+        h1.a0,
+        h1.a1,
+        h1.a2,
+        h1.a3,
+        h1.a4,
+        h1.a5,
+        h1.a6,
+        h1.a7,
+        h2.a0,
+        h2.a1,
+        h2.a2,
+        h2.a3,
+        h2.a4,
+        h2.a5,
+        h2.a6,
+        h2.a7,
+        h3.a0,
+        h3.a1,
+        h3.a2,
+        h3.a3,
+        h3.a4,
+        h3.a5,
+        h3.a6,
+        h3.a7,
+        h4.a0,
+        h4.a1,
+        h4.a2,
+        h4.a3,
+        h4.a4,
+        h4.a5,
+        h4.a6,
+        h4.a7,
+    ]
 }

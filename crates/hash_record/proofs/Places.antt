@@ -1,12 +1,13 @@
 -- The record's layout: parts read where they lie, and the whole written part by part.
 -- Assumes nothing.
-use mathlib.Core.Path.{_≡_, refl, sym, ap, _∙_}
-use mathlib.Core.List.{List, [], _∷_, _++_, append-assoc, append-nil}
+use mathlib.Core.Path.{_≡_, refl, ap, _∙_}
+use mathlib.Core.List.{List, [], _∷_, _++_, append-nil}
 use Prim.Native.Nat.{ℕ, _+_, _-_, _*_, _%_, _<_, _≤_}
 use native.Mathlib.Nat.{mod-lt, zero-lt-suc}
 use native.Mathlib.Omega.{arith}
 use borrow.Author.Tests.{eq-eqb, le-leb}
 use lib.ListN.{length, take, drop, replicate, length-append, length-drop, drop-of-length-le}
+use Rattle.definition.specs.declared.State.{State}
 use Rattle.hash_definition.specs.declared.Kept.{Kept}
 use Rattle.definition.specs.Word.{wordOf, bytesOf, bytesOfAll}
 use Rattle.definition.specs.Block.{blockOf, wordAt, wordsOf, wordsOfAll}
@@ -32,16 +33,16 @@ part-word b n h =
     let e : 4 ≤ length (drop n b) = omega (arith, length-drop n b) in
     rw (part-rest n b, le-leb 4 (length (drop n b)) e)
 
-zeros : (x : ℕ) → (x ∷ 0 ∷ 0 ∷ 0 ∷ []) ++ bytesOf 0 ≡ x ∷ replicate 7 0
+zeros : (x : ℕ) → (x ∷ 0 ∷ 0 ∷ 0 ∷ []) ++ (bytesOf 0 ++ []) ≡ x ∷ replicate 7 0
 unfolding bytesOf
 zeros x = refl
 
 -- the code's byte and seven zeros, as two words
-pub header : (x : ℕ) → x < 256 → bytesOf (x * 16777216) ++ bytesOf 0 ≡ x ∷ replicate 7 0
-unfolding wordOf
+header : (x : ℕ) → x < 256 → bytesOfAll (x * 16777216 ∷ 0 ∷ []) ≡ x ∷ replicate 7 0
+unfolding wordOf bytesOfAll
 header x h =
     let e : x * 16777216 ≡ wordOf x 0 0 0 = omega arith in
-    ap (λ (l : List ℕ). l ++ bytesOf 0) (ap bytesOf e ∙ bytes-of-word x 0 0 0 h (omega arith) (omega arith) (omega arith))
+    ap (λ (l : List ℕ). l ++ (bytesOf 0 ++ [])) (ap bytesOf e ∙ bytes-of-word x 0 0 0 h (omega arith) (omega arith) (omega arith))
     ∙ zeros x
 
 -- a whole buffer written from its front is what was written
@@ -49,41 +50,38 @@ pub all-written : (p l : List ℕ) → length p ≡ length l → overwriteAt 0 p
 unfolding overwriteAt
 all-written p l e = rw (drop-of-length-le l {i = 0 + length p} (omega arith)) (append-nil p)
 
--- the front of a record: two words for the code and seven zeros, and the forty words of the state
-unfoldable pub frontWords : Kept → List ℕ
-frontWords k = k .code % 256 * 16777216 ∷ 0 ∷ wordsOfAll (five (k .state))
-
-length-front : (k : Kept) → length (bytesOfAll (frontWords k)) ≡ 168
-unfolding frontWords wordsOfAll five wordsOf
-length-front k = length-bytes (frontWords k)
-
-front-bytes : (k : Kept) → bytesOfAll (frontWords k) ≡ (k .code % 256 ∷ replicate 7 0) ++ bytesOfAll (wordsOfAll (five (k .state)))
-unfolding frontWords bytesOfAll
-front-bytes k =
-    sym (append-assoc (bytesOf (k .code % 256 * 16777216)) (bytesOf 0) (bytesOfAll (wordsOfAll (five (k .state)))))
-    ∙ ap (λ (l : List ℕ). l ++ bytesOfAll (wordsOfAll (five (k .state)))) (header (k .code % 256) (mod-lt (k .code) (zero-lt-suc 255)))
+-- the state is 160 bytes, and the count 8
+length-state : (s : State) → length (bytesOfAll (wordsOfAll (five s))) ≡ 160
+unfolding wordsOfAll five wordsOf
+length-state s = length-bytes (wordsOfAll (five s))
 
 length-count : (n : ℕ) → length (bytesOfAll (countWords n)) ≡ 8
 unfolding countWords
 length-count n = length-bytes (countWords n)
 
--- front, pending bytes and count, written one after the other, are the record
+-- header, state, pending bytes and count, written one after the other, are the record
 pub all-parts : (k : Kept) (b : List ℕ) → length b ≡ 208 → length (k .pending) ≡ 32
-    → writeAt 200 (bytesOfAll (countWords (k .count))) (writeAt 168 (k .pending) (writeAt 0 (bytesOfAll (frontWords k)) b))
+    → writeAt 200 (bytesOfAll (countWords (k .count)))
+    (writeAt 168 (k .pending) (writeAt 8 (bytesOfAll (wordsOfAll (five (k .state)))) (writeAt 0 (bytesOfAll (k .code % 256 * 16777216 ∷ 0 ∷ [])) b)))
     ≡ encode k
 unfolding encode
 all-parts k b h e =
-    let p : List ℕ = bytesOfAll (frontWords k) in
+    let x : List ℕ = k .code % 256 ∷ replicate 7 0 in
+    let y : List ℕ = bytesOfAll (wordsOfAll (five (k .state))) in
     let v : List ℕ = bytesOfAll (countWords (k .count)) in
-    let n : length p ≡ 168 = length-front k in
+    let n : length y ≡ 160 = length-state (k .state) in
     let m : length v ≡ 8 = length-count (k .count) in
-    let q : length (p ++ k .pending) ≡ 200 = omega (arith, length-append p (k .pending)) in
-    let l : length (p ++ k .pending ++ v) ≡ 208 = omega (arith, length-append (p ++ k .pending) v) in
-    rw (writeAt-more 0 168 p (k .pending) b (omega arith) (omega arith))
-    (writeAt-more 0 200 (p ++ k .pending) v b (omega arith) (omega arith)
-    ∙ write-at 0 (p ++ k .pending ++ v) b (omega arith)
-    ∙ all-written (p ++ k .pending ++ v) b (omega arith)
-    ∙ ap (λ (l : List ℕ). l ++ k .pending ++ v) (front-bytes k))
+    let p : length (x ++ y) ≡ 168 = omega (arith, length-append x y) in
+    let q : length (x ++ y ++ k .pending) ≡ 200 = omega (arith, length-append (x ++ y) (k .pending)) in
+    let l : length (x ++ y ++ k .pending ++ v) ≡ 208 = omega (arith, length-append (x ++ y ++ k .pending) v) in
+    rw (
+      header (k .code % 256) (mod-lt (k .code) (zero-lt-suc 255)),
+      writeAt-more 0 8 x y b (omega arith) (omega arith),
+      writeAt-more 0 168 (x ++ y) (k .pending) b (omega arith) (omega arith),
+    )
+    (writeAt-more 0 200 (x ++ y ++ k .pending) v b (omega arith) (omega arith)
+    ∙ write-at 0 (x ++ y ++ k .pending ++ v) b (omega arith)
+    ∙ all-written (x ++ y ++ k .pending ++ v) b (omega arith))
 
 -- a buffer of 208 bytes is written whole
 pub written-whole : (k : Kept) (b : List ℕ) → length b ≡ recordLength → written k b ≡ encode k

@@ -118,58 +118,11 @@ pub fn encode(k: Kept, b: &mut [u8])
     }
     let code = ((k.code % 256) as u32) * 16777216;
     let s = k.state;
-    let h0 = s.h0;
-    let h1 = s.h1;
-    let h2 = s.h2;
-    let h3 = s.h3;
-    let h4 = s.h4;
-    let front = [
-        code,
-        0,
-        h0.a0,
-        h0.a1,
-        h0.a2,
-        h0.a3,
-        h0.a4,
-        h0.a5,
-        h0.a6,
-        h0.a7,
-        h1.a0,
-        h1.a1,
-        h1.a2,
-        h1.a3,
-        h1.a4,
-        h1.a5,
-        h1.a6,
-        h1.a7,
-        h2.a0,
-        h2.a1,
-        h2.a2,
-        h2.a3,
-        h2.a4,
-        h2.a5,
-        h2.a6,
-        h2.a7,
-        h3.a0,
-        h3.a1,
-        h3.a2,
-        h3.a3,
-        h3.a4,
-        h3.a5,
-        h3.a6,
-        h3.a7,
-        h4.a0,
-        h4.a1,
-        h4.a2,
-        h4.a3,
-        h4.a4,
-        h4.a5,
-        h4.a6,
-        h4.a7,
-    ];
     let high = (k.count / 4294967296) as u32;
     let low = (k.count % 4294967296) as u32;
-    bytes::put_words(b, 0, &front);
+    bytes::put_words(b, 0, &[code, 0]);
+    let words = blocks::words(s);
+    bytes::put_words(b, STATE_AT, &words);
     let pending = k.pending;
     bytes::put_bytes(b, PENDING_AT, &pending);
     bytes::put_words(b, COUNT_AT, &[high, low]);

@@ -88,53 +88,7 @@ fn put(marks: &mut [u32], m: usize, ws: &[u32])
 pub fn write(marks: &mut [u32], m: usize, s: State)
     ensures { λ _. ⌜ now (marks .exit) ≡ writeAt (40 * m) (wordsOfAll (five s)) (now (marks .entry)) ⌝ }
 {
-    let h0 = s.h0;
-    let h1 = s.h1;
-    let h2 = s.h2;
-    let h3 = s.h3;
-    let h4 = s.h4;
-    let ws = [
-        h0.a0,
-        h0.a1,
-        h0.a2,
-        h0.a3,
-        h0.a4,
-        h0.a5,
-        h0.a6,
-        h0.a7,
-        h1.a0,
-        h1.a1,
-        h1.a2,
-        h1.a3,
-        h1.a4,
-        h1.a5,
-        h1.a6,
-        h1.a7,
-        h2.a0,
-        h2.a1,
-        h2.a2,
-        h2.a3,
-        h2.a4,
-        h2.a5,
-        h2.a6,
-        h2.a7,
-        h3.a0,
-        h3.a1,
-        h3.a2,
-        h3.a3,
-        h3.a4,
-        h3.a5,
-        h3.a6,
-        h3.a7,
-        h4.a0,
-        h4.a1,
-        h4.a2,
-        h4.a3,
-        h4.a4,
-        h4.a5,
-        h4.a6,
-        h4.a7,
-    ];
+    let ws = blocks::words(s);
     put(marks, m, &ws);
 }
 

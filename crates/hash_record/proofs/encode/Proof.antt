@@ -4,11 +4,9 @@ use mathlib.Core.Path.{_≡_, sym, _∙_}
 use denote.Ref.{now}
 use borrow.Author.Tests.{eq-eqb, ne-eqb}
 use lib.ListN.{length}
-use Rattle.definition.specs.Block.{wordsOf, wordsOfAll}
-use Rattle.definition.specs.State.{five}
 use Rattle.hash_definition.specs.Record.{countWords}
 use Rattle.hash_record.specs.Reading.{writeWhen, written}
-use Rattle.hash_record.proofs.Places.{frontWords, all-parts}
+use Rattle.hash_record.proofs.Places.{all-parts}
 use borrow.Author.Needs.{needs}
 use Rattle.hash_record.proofs.encode.Statement.{statement}
 use Rattle.hash_record.proofs.encode.Tie as tie
@@ -23,22 +21,26 @@ returns c = rw (ne-eqb _ _ (c .if1 .taken))
 
 -- where the length was found to be right
 abbrev entered : tie.After-put-words → tie.Else1
-entered w = w .before .before .before .before .before .before .before .before .before .before .before .before
+entered w = w .before .before .before .before .before .before .before
 
 slice-aggregate-put-bytes : tie.Need-slice-aggregate-put-bytes
-slice-aggregate-put-bytes c = sym (pending (entered (c .before .before .before .before .before) .before .before))
+slice-aggregate-put-bytes c =
+    let w2 = c .before .before .before .before .before in
+    sym (pending (entered (w2 .before .before .before .before .before .before) .before .before))
 
 returns-2 : tie.Need-returns-2
-unfolding wordsOfAll five wordsOf frontWords countWords written writeWhen
+unfolding countWords written writeWhen
 returns-2 c =
-    let w2 = c .before .before in
-    let p = w2 .before .before .before .before .before in
-    let w = p .before .before .before .before .before .before in
+    let w3 = c .before .before in
+    let p = w3 .before .before .before .before .before in
+    let w2 = p .before .before .before .before .before .before in
+    let s = w2 .before .before .before in
+    let w = s .before .before .before in
     let e = entered w in
     let start = e .before .before in
-    let k = start .args .k in
-    w2 .put-words2 .ensures
-    ∙ rw (p .put-bytes .ensures, w .put-words .ensures, eq-eqb _ _ (e .if1 .left)) (all-parts k (now (start .args .b)) (e .if1 .left) (pending start))
+    w3 .put-words3 .ensures
+    ∙ rw (p .put-bytes .ensures, w2 .put-words2 .ensures, s .words .ensures, w .put-words .ensures, eq-eqb _ _ (e .if1 .left))
+    (all-parts (start .args .k) (now (start .args .b)) (e .if1 .left) (pending start))
 
 pub encode-spec : {M : Type 1} → statement M
 encode-spec =
@@ -50,10 +52,13 @@ encode-spec =
     (λ c. search needs)
     (λ c. search needs)
     (λ c. search needs)
-    (λ c κs. search needs)
+    (λ c κs. tt)
+    (λ c κs. tt)
+    (λ c. search needs)
+    (λ c κs. tt)
     slice-aggregate-put-bytes
     (λ c κs. tt)
     (λ c. search needs)
-    (λ c κs. search needs)
+    (λ c κs. tt)
     (λ c. search needs)
     returns-2)
