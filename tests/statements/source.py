@@ -87,7 +87,7 @@ class Function:
 
 
 def module_of(file):
-    """crates/hash/src/lent.rt holds the module hash::lent, lib.rt and main.rt the crate itself."""
+    """crates/rounds/src/last.rt holds the module rounds::last, lib.rt and main.rt the crate itself."""
     parts = file.with_suffix("").parts
     at = max(i for i, part in enumerate(parts) if part == "src")
     inside = parts[at + 1:-1] if parts[-1] in ("lib", "main", "mod") else parts[at + 1:]
