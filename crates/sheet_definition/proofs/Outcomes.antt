@@ -89,18 +89,25 @@ pub record Fits (code sheet n marks out : ℕ) : Type 0 where
   pub sheet-room : 40 * n ≤ sheet
   pub marks-room : 40 * (q n + 1) ≤ marks
 
+-- 5 isn't given: the records are few enough, and the buffer has room for them
+pub records-fit : (sheet n : ℕ) → sheetRefusal n sheet .1 ≡ false → (n ≤ 1024) × (40 * n ≤ sheet)
+unfolding sheetRefusal
+records-fit sheet n e =
+    let b = either-false (ltb 1024 n) (ltb sheet (40 * n)) e in
+    (ltb-false 1024 n (b .0), ltb-false sheet (40 * n) (b .1))
+
 pub fits : (code sheet n marks out : ℕ) (rs : List Refusal)
     → firstOf (widthRefusal code ∷ outRefusal code out ∷ sheetRefusal n sheet ∷ marksRefusal n marks ∷ rs) ≡ 0
     → Fits code sheet n marks out × (firstOf rs ≡ 0)
 unfolding widthRefusal outRefusal sheetRefusal marksRefusal
 fits code sheet n marks out rs e =
     let h = none-of (widthRefusal code ∷ outRefusal code out ∷ sheetRefusal n sheet ∷ marksRefusal n marks ∷ []) rs (omega arith) e in
-    let b = either-false (ltb 1024 n) (ltb sheet (40 * n)) (h .0 .1 .1 .0) in (
+    let b = records-fit sheet n (h .0 .1 .1 .0) in (
       record {
         code-known = not-false (known code) (h .0 .0);
         out-room = ltb-false out (bytesAt code) (h .0 .1 .0);
-        count = ltb-false 1024 n (b .0);
-        sheet-room = ltb-false sheet (40 * n) (b .1);
+        count = b .0;
+        sheet-room = b .1;
         marks-room = ltb-false marks (40 * (q n + 1)) (h .0 .1 .1 .1 .0);
       },
       h .1,

@@ -4,7 +4,7 @@ ghost use mathlib.Core.Path.{_≡_};
 ghost use mathlib.Core.Bool.{false};
 ghost use mathlib.Core.List.{[], _∷_};
 ghost use Rattle.definition.specs.Refusal.{STALE as STALE', firstOf};
-ghost use Rattle.sheet_definition.specs.Sheet.{sizeRefusal, claimRefusal, buildRefusals, changeRefusals, appendRefusals, dropRefusals};
+ghost use Rattle.sheet_definition.specs.Sheet.{sheetRefusal, sizeRefusal, claimRefusal, buildRefusals, changeRefusals, appendRefusals, dropRefusals};
 use sheet_definition::MARK;
 use sheet_definition::MOST;
 use sheet_definition::RECORD;
@@ -30,7 +30,20 @@ pub const CLAIM: u64 = 10;
 
 pub const STALE: u64 = 11;
 
-// The four refusals that every call begins with. n is held to the most before it is multiplied.
+// Refusal 5 alone: whether the buffer holds n records. n is held to the most before it is multiplied.
+pub fn held(sheet: usize, n: usize) -> u64
+    ensures { λ r. ⌜ r ≡ firstOf (sheetRefusal n sheet ∷ []) ⌝ }
+{
+    if MOST < n {
+        return SHEET;
+    }
+    if sheet < RECORD * n {
+        return SHEET;
+    }
+    DONE
+}
+
+// The four refusals that every save begins with.
 pub fn build(code: usize, sheet: usize, n: usize, marks: usize, out: usize) -> u64
     ensures { λ r. ⌜ r ≡ firstOf (buildRefusals code sheet n marks out) ⌝ }
 {
@@ -40,15 +53,11 @@ pub fn build(code: usize, sheet: usize, n: usize, marks: usize, out: usize) -> u
     if out < 4 * codes::words(code) {
         return OUT;
     }
-    if MOST < n {
-        return SHEET;
+    let five = held(sheet, n);
+    if five != DONE {
+        return five;
     }
-    let bytes = RECORD * n;
-    let words = MARK * (n / 4 + 1);
-    if sheet < bytes {
-        return SHEET;
-    }
-    if marks < words {
+    if marks < MARK * (n / 4 + 1) {
         return MARKS;
     }
     DONE

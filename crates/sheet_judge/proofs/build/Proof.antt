@@ -2,7 +2,7 @@
 -- Assumes nothing.
 use mathlib.Core.Path.{_≡_, sym, _∙_}
 use mathlib.Core.List.{[], _∷_}
-use Prim.Native.Nat.{ℕ, _+_, _*_, _/_}
+use Prim.Native.Nat.{ℕ, _+_, _*_, _/_, _≤_}
 use native.Mathlib.Omega.{arith}
 use borrow.Author.Needs.{needs}
 use borrow.Author.Tests.{lt-ltb, le-ltb, not-true, not-false}
@@ -10,6 +10,8 @@ use Rattle.definition.specs.Luffa.{bytesAt}
 use Rattle.definition.specs.Refusal.{pick, firstOf, widthRefusal, outRefusal}
 use Rattle.sheet_definition.specs.Sheet.{q, sheetRefusal, marksRefusal, buildRefusals}
 use Rattle.definition.proofs.Codes.{words-le}
+use Rattle.definition.proofs.Refusals.{none, more, front-given, rest-given}
+use Rattle.sheet_definition.proofs.Outcomes.{records-fit, none-of}
 use Rattle.sheet_judge.proofs.build.Statement.{statement}
 use Rattle.sheet_judge.proofs.build.Tie as tie
 
@@ -35,39 +37,36 @@ after c h =
     rw (sym (e .before .known .ensures) ∙ not-false _ (e .if1 .left), le-ltb _ _ (rw (w .words .ensures) at (c .if2 .left))) h
 
 returns-3 : tie.Need-returns-3
-unfolding firstOf pick sheetRefusal
-returns-3 c =
-    let d = c .before in
-    after d (rw (lt-ltb 1024 (d .before .before .before .before .args .n) (omega arith)))
+returns-3 c = after (c .before .before) (front-given _ _ (c .before .held .ensures) (λ e. omega arith))
 
-mul-bytes : tie.Need-mul-bytes
-mul-bytes c = omega arith
+-- the sheet has room for its records: the marks alone decide
+marks-alone : (c : tie.Else3) {j : ℕ} → let a = c .before .before .before .before .before .before .args in
+    j ≡ firstOf (marksRefusal (a .n) (a .marks) ∷ [])
+    → j ≡ firstOf (buildRefusals (a .code) (a .sheet) (a .n) (a .marks) (a .out))
+unfolding sheetRefusal
+marks-alone c h = after (c .before .before) (h ∙ sym (rest-given _ (more none) (c .before .held .ensures) (omega arith)))
+
+-- and they can be counted
+few : (c : tie.Else3) → c .before .before .before .before .before .before .args .n ≤ 1024
+unfolding sheetRefusal
+few c =
+    let a = c .before .before .before .before .before .before .args in
+    records-fit (a .sheet) (a .n) (none-of (sheetRefusal (a .n) (a .sheet) ∷ []) [] (omega arith) (sym (c .before .held .ensures) ∙ c .if3 .left) .0 .0) .0
 
 returns-4 : tie.Need-returns-4
-unfolding firstOf pick sheetRefusal
+unfolding firstOf pick marksRefusal q
 returns-4 c =
-    let d = c .before .before in
-    let a = d .before .before .before .before .args in
-    after d (rw (le-ltb 1024 (a .n) (omega arith), lt-ltb (a .sheet) (40 * a .n) (omega arith)))
+    let a = c .before .before .before .before .before .before .before .args in
+    marks-alone (c .before) (rw (lt-ltb (a .marks) (40 * (a .n / 4 + 1)) (omega arith)))
 
 returns-5 : tie.Need-returns-5
-unfolding firstOf pick sheetRefusal marksRefusal q
+unfolding firstOf pick marksRefusal q
 returns-5 c =
-    let d = c .before .before .before in
-    let a = d .before .before .before .before .args in
-    after d
-    (rw (le-ltb 1024 (a .n) (omega arith), le-ltb (a .sheet) (40 * a .n) (omega arith), lt-ltb (a .marks) (40 * (a .n / 4 + 1)) (omega arith)))
-
-returns-6 : tie.Need-returns-6
-unfolding firstOf pick sheetRefusal marksRefusal q
-returns-6 c =
-    let d = c .before .before .before in
-    let a = d .before .before .before .before .args in
-    after d
-    (rw (le-ltb 1024 (a .n) (omega arith), le-ltb (a .sheet) (40 * a .n) (omega arith), le-ltb (a .marks) (40 * (a .n / 4 + 1)) (omega arith)))
+    let a = c .before .before .before .before .before .before .before .args in
+    marks-alone (c .before) (rw (le-ltb (a .marks) (40 * (a .n / 4 + 1)) (omega arith)))
 
 pub build-spec : {M : Type 1} → statement M
 build-spec =
     tie.close
-    (tie.spec (λ c κs. tt) returns (λ c κs. tt) (λ c. omega (arith, words-le (c .before .before .before .args .code))) returns-2 returns-3
-    mul-bytes (λ c. search needs) (λ c. search needs) returns-4 returns-5 returns-6)
+    (tie.spec (λ c κs. tt) returns (λ c κs. tt) (λ c. omega (arith, words-le (c .before .before .before .args .code))) returns-2
+    (λ c κs. tt) returns-3 (λ c. search needs) (λ c. omega (arith, few c)) returns-4 returns-5)
