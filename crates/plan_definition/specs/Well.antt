@@ -18,7 +18,7 @@ unfoldable pub linkAt : List ℕ → (i : ℕ) → Link
 linkAt x i = record { injector = two x i; share = two x (i + 2) }
 
 -- a link of zeros
-unfoldable pub noLink : Link
+abbrev pub noLink : Link
 noLink = record { injector = 0; share = 0 }
 
 -- "well number (bytes 0-1), kind (byte 2), link count (byte 3), rate in tonnes a day (4-7), four links (8-23)"
