@@ -1,0 +1,2 @@
+-- The set of well numbers as a table of bits.
+pub mod Numbers

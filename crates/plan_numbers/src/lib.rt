@@ -1,0 +1,24 @@
+// A set of well numbers: a bit for each of the 65,536, which is 8 KiB (document 02, Q-1). With it a check asks once for each record whether a
+// number was met, however many records there are.
+ghost use mathlib.Core.Path.{_≡_};
+ghost use Rattle.plan_numbers.specs.Numbers.{has as hasNumber, Adds};
+
+// The bits, 64 to a word.
+pub const WORDS: usize = 1024;
+
+pub fn has(t: &[u64; 1024], k: u16) -> bool
+    ensures { λ r. ⌜ r ≡ hasNumber (now (t .entry)) k ⌝ }
+{
+    let i = k as usize;
+    (t[i / 64] >> (i % 64)) % 2 == 1
+}
+
+// The set with a number more.
+pub fn put(t: &mut [u64; 1024], k: u16)
+    ensures { λ _. ⌜ Adds k (now (t .entry)) (now (t .exit)) ⌝ }
+{
+    let i = k as usize;
+    // Lent as a slice, so that its length is known.
+    let words = &mut t[..];
+    words[i / 64] = words[i / 64] | (1 << (i % 64));
+}
