@@ -3,9 +3,7 @@
 ghost use mathlib.Core.Path.{_≡_};
 ghost use Rattle.plan_numbers.specs.Numbers.{has as hasNumber, Adds};
 
-// The bits, 64 to a word.
-pub const WORDS: usize = 1024;
-
+// Whether a number is in the set. The bits stand 64 to a word.
 pub fn has(t: &[u64; 1024], k: u16) -> bool
     ensures { λ r. ⌜ r ≡ hasNumber (now (t .entry)) k ⌝ }
 {
