@@ -15,7 +15,7 @@ use Rattle.sheet_definition.specs.Sheet.{q, sheetRefusal, marksRefusal}
 use Rattle.sheet_definition.specs.SheetCalls.{SheetOutcome, refusedWith, sheetOutcome}
 use Rattle.definition.proofs.Conditions.{either-false}
 use Rattle.definition.proofs.Every.{Every}
-use Rattle.definition.proofs.Refusals.{First, first-given, given-first}
+use Rattle.definition.proofs.Refusals.{First, first-given, given-first, none-of}
 
 -- what a refused call leaves
 pub record Untouched (n : ℕ) (sheet marks out : List ℕ) (o : SheetOutcome) : Type 0 where
@@ -73,13 +73,6 @@ module _ (rs : List Refusal) (n check : ℕ) (sheet marks out : List ℕ) (done 
         stale = λ h. rw h (g (e ∙ h));
         none = λ h i. rw (ne-eqb (suc k) STALE i);
       })
-
--- of refusals in front of others that give 0 none holds
-pub none-of : (rs ss : List Refusal) → Every (λ r. 0 < r .0) rs → firstOf (rs ++ ss) ≡ 0 → Every (λ r. r .1 ≡ false) rs × (firstOf ss ≡ 0)
-unfolding firstOf pick
-none-of [] ss h e = (tt, e)
-none-of ((n, true) ∷ rs) ss h e = absurd (omega arith)
-none-of ((n, false) ∷ rs) ss h e = let i = none-of rs ss (h .1) e in ((refl, i .0), i .1)
 
 -- what the four refusals that each sheet call begins with leave
 pub record Fits (code sheet n marks out : ℕ) : Type 0 where

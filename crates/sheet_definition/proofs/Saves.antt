@@ -27,7 +27,8 @@ use Rattle.definition.proofs.Buffer.{length-overwrite, length-overwriteAt, take
 use Rattle.sheet_definition.proofs.Marks.{digest-from-mark, mark-written, marks-after-work}
 use Rattle.sheet_definition.proofs.Writes.{marks-kept, Rewritten, rewritten, length-digest}
 use Rattle.definition.proofs.Conditions.{either-false}
-use Rattle.sheet_definition.proofs.Outcomes.{by-number, none-of, fits}
+use Rattle.definition.proofs.Refusals.{none-of}
+use Rattle.sheet_definition.proofs.Outcomes.{by-number, fits}
 
 -- a true mark stays true where its words and the groups before it are as they were
 true-still : (code m k : ℕ) (sheet' sheet marks' marks : List ℕ) → take (160 * m) sheet' ≡ take (160 * m) sheet → k ≤ m

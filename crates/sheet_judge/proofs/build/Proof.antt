@@ -10,8 +10,8 @@ use Rattle.definition.specs.Luffa.{bytesAt}
 use Rattle.definition.specs.Refusal.{pick, firstOf, widthRefusal, outRefusal}
 use Rattle.sheet_definition.specs.Sheet.{q, sheetRefusal, marksRefusal, buildRefusals}
 use Rattle.definition.proofs.Codes.{words-le}
-use Rattle.definition.proofs.Refusals.{none, more, front-given, rest-given}
-use Rattle.sheet_definition.proofs.Outcomes.{records-fit, none-of}
+use Rattle.definition.proofs.Refusals.{none, more, front-given, rest-given, none-of}
+use Rattle.sheet_definition.proofs.Outcomes.{records-fit}
 use Rattle.sheet_judge.proofs.build.Statement.{statement}
 use Rattle.sheet_judge.proofs.build.Tie as tie
 
