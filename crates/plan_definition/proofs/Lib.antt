@@ -1,0 +1,3 @@
+-- Laws of the plan's definitions, which the crates above cite, and examples that the checker computes.
+pub mod Some
+pub mod Places

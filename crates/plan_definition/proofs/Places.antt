@@ -1,0 +1,117 @@
+-- The wells of a sheet stand at the places below n, one at each; and how a loop over the places finds them one by one.
+-- Assumes nothing.
+use mathlib.Core.Path.{_≡_, refl, sym}
+use mathlib.Core.Logic.{_↔_, _⊎_, inl, inr}
+use mathlib.Core.Bool.{Bool, true, false, _&&_, _||_, false≢true}
+use mathlib.Core.List.{List, [], _∷_}
+use Prim.Native.Nat.{ℕ, zero, suc, _+_, _-_, _*_, _<_}
+use native.Mathlib.Omega.{arith}
+use lib.Dec.{ltb, eqb}
+use lib.ListN.{take, drop}
+use lib.Seq.{drop-drop}
+use borrow.Author.Tests.{ltb-true, le-ltb, lt-ltb, eqb-true, eqb-false, eq-eqb}
+use Rattle.definition.proofs.Conditions.{both-true}
+use Rattle.sheet_definition.specs.Run.{cut}
+use Rattle.plan_definition.specs.declared.Well.{Well}
+use Rattle.plan_definition.specs.Some.{Among}
+use Rattle.plan_definition.specs.Some.Among.{here, later}
+use Rattle.plan_definition.specs.Well.{wellOf, wellsFrom, wells}
+use Rattle.plan_definition.specs.Rules.{isBefore}
+use Rattle.plan_definition.proofs.Some.{none-among, among-cases, some-true, some-false}
+
+-- two tests that pass alike are equal
+alike : {a b : Bool} → (a ≡ true → b ≡ true) → (b ≡ true → a ≡ true) → a ≡ b
+alike {a = true} {b = b} f g = sym (f refl)
+alike {a = false} {b = true} f g = absurd (false≢true (g refl))
+alike {a = false} {b = false} f g = refl
+
+-- the well at a place, and those from a place on
+abbrev pub wellAt : (place : ℕ) → (sheet : List ℕ) → Well
+wellAt place sheet = wellOf place (take 40 (drop (40 * place) sheet))
+
+abbrev pub left : (i n : ℕ) → (sheet : List ℕ) → List Well
+left i n sheet = wellsFrom i (cut (n - i) (drop (40 * i) sheet))
+
+module _ (n : ℕ) (sheet : List ℕ) where
+  -- from place 0 on they are all wells
+  pub left-all : left 0 n sheet ≡ wells n sheet
+  unfolding wells
+  left-all = let e : n - 0 ≡ n = omega arith in rw e
+
+  -- from a place below n on they are its well and those after it
+  pub left-step : (i : ℕ) → i < n → left i n sheet ≡ wellAt i sheet ∷ left (suc i) n sheet
+  unfolding wellsFrom cut
+  left-step i h =
+      let e : n - i ≡ suc (n - suc i) = omega arith in
+      let j : 40 * suc i ≡ 40 * i + 40 = omega arith in
+      rw (e, j, drop-drop 40 (40 * i) sheet)
+
+  -- from place n on there is none
+  pub left-none : left n n sheet ≡ []
+  unfolding wellsFrom cut
+  left-none = let e : n - n ≡ 0 = omega arith in rw e
+
+  at-place : (k i : ℕ) (w : Well) → i + k ≡ n → Among w (left i n sheet) → (p : ℕ) × (p < n) × (w ≡ wellAt p sheet)
+  at-place zero i w e m =
+      let z : i ≡ n = omega arith in
+      absurd (none-among (rw left-none at (rw z at m)))
+  at-place (suc k) i w e m =
+      go (among-cases (rw (left-step i (omega arith)) at m)) (at-place k (suc i) w (omega arith))
+    where
+      go : (w ≡ wellAt i sheet) ⊎ Among w (left (suc i) n sheet) → (Among w (left (suc i) n sheet) → (p : ℕ) × (p < n) × (w ≡ wellAt p sheet))
+          → (p : ℕ) × (p < n) × (w ≡ wellAt p sheet)
+      go (inl q) f = (i, omega arith, q)
+      go (inr m) f = f m
+
+  placed : (k i p : ℕ) → i + k ≡ p → p < n → Among (wellAt p sheet) (left i n sheet)
+  placed zero i p e h =
+      let z : p ≡ i = omega arith in
+      rw (z, left-step i (omega arith)) here
+  placed (suc k) i p e h = rw (left-step i (omega arith)) (later (placed k (suc i) p (omega arith) h))
+
+  -- every place below n has its well, and there is no other
+  pub wells-at : (w : Well) → Among w (wells n sheet) ↔ ((p : ℕ) × (p < n) × (w ≡ wellAt p sheet))
+  wells-at w =
+      (λ m. at-place n 0 w (omega arith) (rw left-all m), λ s. rw (← left-all, s .2) (placed (s .0) 0 (s .0) (omega arith) (s .1)))
+
+  -- a place before j has the number
+  pub before-exactly : (j k : ℕ) → (isBefore (wells n sheet) j k ≡ true) ↔ ((p : ℕ) × (p < n) × (p < j) × (wellAt p sheet .number ≡ k))
+  unfolding isBefore wellOf
+  before-exactly j k = (
+    λ e. go (some-true _ (wells n sheet) .0 e),
+    λ s. some-true _ (wells n sheet) .1 (
+      wellAt (s .0) sheet,
+      wells-at (wellAt (s .0) sheet) .1 (s .0, s .1, refl),
+      rw (lt-ltb (s .0) j (s .2)) (eq-eqb _ k (s .3)),
+    ),
+  )
+    where
+      go : ((v : Well) × Among v (wells n sheet) × ((ltb (v .place) j && eqb (v .number) k) ≡ true))
+          → (p : ℕ) × (p < n) × (p < j) × (wellAt p sheet .number ≡ k)
+      go s =
+          let b = both-true (ltb (s .0 .place) j) (eqb (s .0 .number) k) (s .2) in
+          let at = wells-at (s .0) .0 (s .1) in
+          (at .0, at .1, rw (at .2) at (ltb-true (s .0 .place) j (b .0)), rw (at .2) at (eqb-true (s .0 .number) k (b .1)))
+
+  -- before place 0 there is none
+  pub before-none : (k : ℕ) → isBefore (wells n sheet) 0 k ≡ false
+  unfolding isBefore
+  before-none k = some-false _ (wells n sheet) .1 (λ v m. rw (le-ltb (v .place) 0 (omega arith)))
+
+  -- before the place after i there is place i too
+  pub before-step : (i k : ℕ) → i < n
+      → isBefore (wells n sheet) (suc i) k ≡ (eqb (wellAt i sheet .number) k || isBefore (wells n sheet) i k)
+  before-step i k h = go (eqb (wellAt i sheet .number) k) refl
+    where
+      earlier : eqb (wellAt i sheet .number) k ≡ false → isBefore (wells n sheet) (suc i) k ≡ true → isBefore (wells n sheet) i k ≡ true
+      earlier e t =
+          let s = before-exactly (suc i) k .0 t in
+          let d : s .0 ≡ i → ⊥ = λ q. eqb-false _ k e (rw q at (s .3)) in
+          before-exactly i k .1 (s .0, s .1, omega arith, s .3)
+
+      still : isBefore (wells n sheet) i k ≡ true → isBefore (wells n sheet) (suc i) k ≡ true
+      still t = let s = before-exactly i k .0 t in before-exactly (suc i) k .1 (s .0, s .1, omega arith, s .3)
+
+      go : (b : Bool) → eqb (wellAt i sheet .number) k ≡ b → isBefore (wells n sheet) (suc i) k ≡ (b || isBefore (wells n sheet) i k)
+      go true e = before-exactly (suc i) k .1 (i, h, omega arith, eqb-true _ k e)
+      go false e = alike (earlier e) still
