@@ -1,23 +1,23 @@
 -- The wells of a sheet stand at the places below n, one at each; and how a loop over the places finds them one by one.
 -- Assumes nothing.
 use mathlib.Core.Path.{_≡_, refl, sym}
-use mathlib.Core.Logic.{_↔_, _⊎_, inl, inr}
-use mathlib.Core.Bool.{Bool, true, false, _&&_, _||_, false≢true}
+use mathlib.Core.Logic.{_↔_, Iff·trans}
+use mathlib.Core.Bool.{Bool, true, false, _||_, false≢true}
 use mathlib.Core.List.{List, [], _∷_}
 use Prim.Native.Nat.{ℕ, zero, suc, _+_, _-_, _*_, _<_}
 use native.Mathlib.Omega.{arith}
-use lib.Dec.{ltb, eqb}
+use lib.Dec.{eqb}
 use lib.ListN.{take, drop}
 use lib.Seq.{drop-drop}
-use borrow.Author.Tests.{ltb-true, le-ltb, lt-ltb, eqb-true, eqb-false, eq-eqb}
-use Rattle.definition.proofs.Conditions.{both-true}
+use borrow.Author.Tests.{le-ltb, eqb-true, eqb-false}
 use Rattle.sheet_definition.specs.Run.{cut}
 use Rattle.plan_definition.specs.declared.Well.{Well}
 use Rattle.plan_definition.specs.Some.{Among}
 use Rattle.plan_definition.specs.Some.Among.{here, later}
 use Rattle.plan_definition.specs.Well.{wellOf, wellsFrom, wells}
 use Rattle.plan_definition.specs.Rules.{isBefore}
-use Rattle.plan_definition.proofs.Some.{none-among, among-cases, some-true, some-false}
+use Rattle.plan_definition.proofs.Some.{none-among, among-cons, some-false}
+use Rattle.plan_definition.proofs.Exactly.{less, equal, both, one-passes}
 
 -- two tests that pass alike are equal
 alike : {a b : Bool} → (a ≡ true → b ≡ true) → (b ≡ true → a ≡ true) → a ≡ b
@@ -56,12 +56,8 @@ module _ (n : ℕ) (sheet : List ℕ) where
       let z : i ≡ n = omega arith in
       absurd (none-among (rw left-none at (rw z at m)))
   at-place (suc k) i w e m =
-      go (among-cases (rw (left-step i (omega arith)) at m)) (at-place k (suc i) w (omega arith))
-    where
-      go : (w ≡ wellAt i sheet) ⊎ Among w (left (suc i) n sheet) → (Among w (left (suc i) n sheet) → (p : ℕ) × (p < n) × (w ≡ wellAt p sheet))
-          → (p : ℕ) × (p < n) × (w ≡ wellAt p sheet)
-      go (inl q) f = (i, omega arith, q)
-      go (inr m) f = f m
+      among-cons (λ w. (p : ℕ) × (p < n) × (w ≡ wellAt p sheet)) (i, omega arith, refl) (λ v. at-place k (suc i) v (omega arith)) w
+      (rw (left-step i (omega arith)) at m)
 
   placed : (k i p : ℕ) → i + k ≡ p → p < n → Among (wellAt p sheet) (left i n sheet)
   placed zero i p e h =
@@ -77,21 +73,11 @@ module _ (n : ℕ) (sheet : List ℕ) where
   -- a place before j has the number
   pub before-exactly : (j k : ℕ) → (isBefore (wells n sheet) j k ≡ true) ↔ ((p : ℕ) × (p < n) × (p < j) × (wellAt p sheet .number ≡ k))
   unfolding isBefore wellOf
-  before-exactly j k = (
-    λ e. go (some-true _ (wells n sheet) .0 e),
-    λ s. some-true _ (wells n sheet) .1 (
-      wellAt (s .0) sheet,
-      wells-at (wellAt (s .0) sheet) .1 (s .0, s .1, refl),
-      rw (lt-ltb (s .0) j (s .2)) (eq-eqb _ k (s .3)),
-    ),
-  )
-    where
-      go : ((v : Well) × Among v (wells n sheet) × ((ltb (v .place) j && eqb (v .number) k) ≡ true))
-          → (p : ℕ) × (p < n) × (p < j) × (wellAt p sheet .number ≡ k)
-      go s =
-          let b = both-true (ltb (s .0 .place) j) (eqb (s .0 .number) k) (s .2) in
-          let at = wells-at (s .0) .0 (s .1) in
-          (at .0, at .1, rw (at .2) at (ltb-true (s .0 .place) j (b .0)), rw (at .2) at (eqb-true (s .0 .number) k (b .1)))
+  before-exactly j k =
+      Iff·trans (one-passes (wells n sheet) (λ v. both (less (v .place) j) (equal (v .number) k))) (
+        λ s. let at = wells-at (s .0) .0 (s .1) in (at .0, at .1, rw (at .2) at (s .2 .0), rw (at .2) at (s .2 .1)),
+        λ s. (wellAt (s .0) sheet, wells-at (wellAt (s .0) sheet) .1 (s .0, s .1, refl), (s .2, s .3)),
+      )
 
   -- before place 0 there is none
   pub before-none : (k : ℕ) → isBefore (wells n sheet) 0 k ≡ false

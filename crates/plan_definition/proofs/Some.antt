@@ -1,9 +1,12 @@
 -- A test of a list: some element passes it exactly when there is one among them that does, and none exactly when each fails.
 -- Assumes nothing.
 use mathlib.Core.Path.{_≡_, refl, sym, _∙_}
-use mathlib.Core.Logic.{_↔_, _⊎_, inl, inr}
+use mathlib.Core.Logic.{_↔_}
 use mathlib.Core.Bool.{Bool, true, false, _||_, false≢true}
 use mathlib.Core.List.{List, [], _∷_}
+use Prim.Native.Nat.{ℕ, zero, suc, _<_}
+use native.Mathlib.Omega.{arith}
+use lib.ListN.{length, getD}
 use Rattle.definition.proofs.Conditions.{either-false, other-way}
 use Rattle.plan_definition.specs.Some.{some, Among}
 use Rattle.plan_definition.specs.Some.Among.{here, later}
@@ -13,10 +16,20 @@ module _ {A : Type 0} where
   pub none-among : {a : A} → Among a [] → ⊥
   none-among = elim [ ]
 
-  -- and among some is the first or one after it
-  pub among-cases : {a b : A} {l : List A} → Among a (b ∷ l) → (a ≡ b) ⊎ Among a l
-  among-cases here = inl refl
-  among-cases (later m) = inr m
+  -- what holds of an element and of each among others holds of each among them all
+  pub among-cons : {a : A} {l : List A} (P : A → Type 0) → P a → ((b : A) → Among b l → P b) → (b : A) → Among b (a ∷ l) → P b
+  among-cons P p h b here = p
+  among-cons P p h b (later m) = h b m
+
+  -- what stands at an index is among the elements, and each of them stands at one
+  pub at-index : (l : List A) (i : ℕ) (d : A) → i < length l → Among (getD l i d) l
+  at-index [] i d h = absurd (omega arith)
+  at-index (a ∷ l) zero d h = here
+  at-index (a ∷ l) (suc i) d h = later (at-index l i d (omega arith))
+
+  pub index-of : {a : A} {l : List A} → Among a l → (d : A) → (i : ℕ) × (i < length l) × (getD l i d ≡ a)
+  index-of here d = (0, omega arith, refl)
+  index-of (later m) d = let s = index-of m d in (suc (s .0), omega arith, s .2)
 
   module _ (f : A → Bool) where
     fails-at : {a : A} {l : List A} → Among a l → some f l ≡ false → f a ≡ false
