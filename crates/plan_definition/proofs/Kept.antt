@@ -7,10 +7,8 @@ use mathlib.Core.List.{List, [], _∷_}
 use Prim.Native.Nat.{ℕ, zero, suc, _<_}
 use native.Mathlib.Omega.{arith}
 use lib.ListN.{length, getD}
-use Rattle.definition.specs.Refusal.{Refusal}
 use Rattle.definition.proofs.Every.{Every}
-use Rattle.definition.proofs.Refusals.{NoneHolds}
-use Rattle.definition.proofs.Refusals.NoneHolds.{none, more}
+use Rattle.definition.proofs.Refusals.{NoneHolds, each-false, none-true}
 use Rattle.plan_definition.specs.declared.Link.{Link}
 use Rattle.plan_definition.specs.declared.Well.{Well}
 use Rattle.plan_definition.specs.Some.{Among}
@@ -104,15 +102,6 @@ module _ (ws : List Well) where
   pub links-kept : (w : Well) → Fails (breaksLinks (isInjectorOf ws) w) (KeepsLinks ws w)
   unfolding breaksLinks KeepsLinks
   links-kept w = names (used w)
-
--- no condition of a list holds exactly when each is false
-each-false : {rs : List Refusal} → NoneHolds rs → Every (λ r. r .1 ≡ false) rs
-each-false none = tt
-each-false (more h) = (refl, each-false h)
-
-none-true : (rs : List Refusal) → Every (λ r. r .1 ≡ false) rs → NoneHolds rs
-none-true [] h = none
-none-true ((n, b) ∷ rs) h = rw (h .0) (more (none-true rs (h .1)))
 
 -- so a well breaks no rule exactly when it keeps each
 pub keeps : (ws : List Well) (w : Well) → NoneHolds (rulesAt ws w) ↔ Keeps ws w
