@@ -1,0 +1,3 @@
+-- Laws that several of this crate's proofs use.
+pub mod Links
+pub mod Shape
