@@ -2,4 +2,8 @@
 pub mod Some
 pub mod Exactly
 pub mod Kept
+pub mod Faults
+pub mod Verdicts
+pub mod Elsewhere
+pub mod Determined
 pub mod Places

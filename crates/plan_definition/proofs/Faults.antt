@@ -1,0 +1,145 @@
+-- What the search for the first fault finds: none exactly where every well keeps the rules, and else the lowest faulty place with the first
+-- rule broken there.
+-- Assumes nothing.
+use mathlib.Core.Path.{_≡_, refl, sym, _∙_}
+use mathlib.Core.Logic.{_↔_, Iff·trans}
+use mathlib.Core.List.{List, [], _∷_}
+use Prim.Native.Nat.{ℕ, zero, suc, _<_, _≤_}
+use native.Mathlib.Nat.{le-refl}
+use native.Mathlib.Omega.{arith}
+use Rattle.definition.specs.Refusal.{Refusal, firstOf}
+use Rattle.definition.proofs.Every.{Every}
+use Rattle.definition.proofs.Refusals.{First, first-given, given-first, none-given, given-none}
+use Rattle.definition.proofs.Refusals.First.{here as first, later as next}
+use Rattle.definition.proofs.Refusals.Numbered.{none, more}
+use Rattle.plan_definition.specs.declared.Well.{Well}
+use Rattle.plan_definition.specs.declared.Rule.{Rule}
+use Rattle.plan_definition.specs.declared.Rule.the-variants.{Number, Kind, LinkCount, Rate, Links, Shares, UnusedLinks, Repeat}
+use Rattle.plan_definition.specs.declared.Verdict.{Verdict}
+use Rattle.plan_definition.specs.declared.Verdict.the-variants.{Sound, Fault}
+use Rattle.plan_definition.specs.Some.{Among}
+use Rattle.plan_definition.specs.Some.Among.{here, later}
+use Rattle.plan_definition.specs.Well.{wellOf, wellsFrom}
+use Rattle.plan_definition.specs.Rules.{ruleNumber, rulesBy, rulesAt}
+use Rattle.plan_definition.specs.Sound.{Keeps}
+use Rattle.plan_definition.specs.Check.{ruleOf, foundAt, firstFault}
+use Rattle.plan_definition.proofs.Some.{none-among, among-cons}
+use Rattle.plan_definition.proofs.Kept.{keeps}
+
+-- a rule's number isn't 0, and gives the rule back
+pub rule-number : (r : Rule) → (0 < ruleNumber r) × (ruleOf (ruleNumber r) ≡ r)
+unfolding ruleNumber ruleOf
+rule-number Number = (omega arith, refl)
+rule-number Kind = (omega arith, refl)
+rule-number LinkCount = (omega arith, refl)
+rule-number Rate = (omega arith, refl)
+rule-number Links = (omega arith, refl)
+rule-number Shares = (omega arith, refl)
+rule-number UnusedLinks = (omega arith, refl)
+rule-number Repeat = (omega arith, refl)
+
+pub rule-back : (r : Rule) → ruleOf (ruleNumber r) ≡ r
+rule-back r = rule-number r .1
+
+-- a number that isn't 0 is a fault
+pub found : (k place : ℕ) (rest : Verdict) → 0 < k → foundAt k place rest ≡ Fault (ruleOf k) place
+unfolding foundAt
+found zero place rest h = absurd (omega arith)
+found (suc k) place rest h = refl
+
+-- what holds of every number in a list holds of the one given first
+of-first : {k : ℕ} {rs : List Refusal} (P : ℕ → Type 0) → First k rs → Every (λ r. P (r .0)) rs → P k
+of-first P first h = h .0
+of-first P (next f) h = of-first P f (h .1)
+
+-- the wells from a place on stand at places that rise
+abbrev pub Rising : List Well → Type 0
+Rising [] = Unit
+Rising (w ∷ ws) = ((v : Well) → Among v ws → w .place < v .place) × Rising ws
+
+from : (i : ℕ) (xs : List (List ℕ)) (v : Well) → Among v (wellsFrom i xs) → i ≤ v .place
+unfolding wellsFrom wellOf
+from i [] v m = absurd (none-among m)
+from i (x ∷ xs) v m = among-cons (λ v. i ≤ v .place) (le-refl i) (λ v m. let h = from (suc i) xs v m in omega arith) v m
+
+pub rising : (i : ℕ) (xs : List (List ℕ)) → Rising (wellsFrom i xs)
+unfolding wellsFrom wellOf
+rising i [] = tt
+rising i (x ∷ xs) = (from (suc i) xs, rising (suc i) xs)
+
+-- of some wells of a sheet, the lowest faulty place with the first rule broken there
+pub record FaultAmong (all ws : List Well) (rule : Rule) (place : ℕ) : Type 0 where
+  pub well : Well
+  pub among : Among well ws
+  pub at : well .place ≡ place
+  pub first-broken : First (ruleNumber rule) (rulesAt all well)
+  pub before : (v : Well) → Among v ws → v .place < place → Keeps all v
+
+abbrev pub FirstFault : List Well → Rule → (place : ℕ) → Type 0
+FirstFault ws = FaultAmong ws ws
+
+module _ (all : List Well) where
+  -- 0 stands for a well that keeps the rules, any other number for one of them
+  no-fault : (w : Well) → (firstOf (rulesAt all w) ≡ 0) ↔ Keeps all w
+  unfolding rulesAt rulesBy ruleNumber
+  no-fault w = Iff·trans (given-none (more (more (more (more (more (more (more (more none)))))))), none-given) (keeps all w)
+
+  number-back : (w : Well) {k : ℕ} → First k (rulesAt all w) → ruleNumber (ruleOf k) ≡ k
+  unfolding rulesAt rulesBy ruleNumber ruleOf
+  number-back w f = of-first (λ k. ruleNumber (ruleOf k) ≡ k) f (search)
+
+  -- sound exactly when every well keeps the rules
+  pub none-faulty : (ws : List Well) → (firstFault all ws ≡ Sound) ↔ ((w : Well) → Among w ws → Keeps all w)
+  unfolding firstFault foundAt
+  none-faulty [] = (λ e w m. absurd (none-among m), λ h. refl)
+  none-faulty (w ∷ ws) = go (firstOf (rulesAt all w)) refl (none-faulty ws)
+    where
+      go : (k : ℕ) → firstOf (rulesAt all w) ≡ k → (firstFault all ws ≡ Sound) ↔ ((v : Well) → Among v ws → Keeps all v)
+          → (foundAt k (w .place) (firstFault all ws) ≡ Sound) ↔ ((v : Well) → Among v (w ∷ ws) → Keeps all v)
+      go zero e i = (λ f. among-cons (Keeps all) (no-fault w .0 e) (i .0 f), λ h. i .1 (λ v m. h v (later m)))
+      go (suc k) e i = (λ f. let z : _≡_ {A = ℕ} 0 1 = cc in absurd (omega arith), λ h. absurd (omega (arith, no-fault w .1 (h w here))))
+
+  -- a fault exactly when it is the first
+  pub first-faulty : (rule : Rule) (place : ℕ) (ws : List Well) → Rising ws
+      → (firstFault all ws ≡ Fault rule place) ↔ FaultAmong all ws rule place
+  unfolding firstFault foundAt
+  first-faulty rule place [] r = (λ e. let z : _≡_ {A = ℕ} 0 1 = cc in absurd (omega arith), λ s. absurd (none-among (s .among)))
+  first-faulty rule place (w ∷ ws) r = go (firstOf (rulesAt all w)) refl (first-faulty rule place ws (r .1))
+    where
+      go : (k : ℕ) → firstOf (rulesAt all w) ≡ k → (firstFault all ws ≡ Fault rule place) ↔ FaultAmong all ws rule place
+          → (foundAt k (w .place) (firstFault all ws) ≡ Fault rule place) ↔ FaultAmong all (w ∷ ws) rule place
+      go zero e i = (
+        λ f. let s = i .0 f in
+            record {
+              well = s .well;
+              among = later (s .among);
+              at = s .at;
+              first-broken = s .first-broken;
+              before = among-cons (λ v. v .place < place → Keeps all v) (λ h. no-fault w .0 e) (s .before);
+            },
+        λ s. i .1 (record {
+          well = s .well;
+          among = among-cons (λ v. First (ruleNumber rule) (rulesAt all v) → Among v ws) (λ f. absurd (omega (arith, first-given f, rule-number rule .0)))
+              (λ v m f. m) (s .well) (s .among) (s .first-broken);
+          at = s .at;
+          first-broken = s .first-broken;
+          before = λ v m. s .before v (later m);
+        }),
+      )
+      go (suc k) e i = (
+        λ f.
+            let a : ruleOf (suc k) ≡ rule = cc in
+            let p : w .place ≡ place = cc in
+            let b = given-first (rulesAt all w) e in
+            record {
+              well = w;
+              among = here;
+              at = p;
+              first-broken = rw (← a, number-back w b) b;
+              before = among-cons (λ v. v .place < place → Keeps all v) (λ h. absurd (omega arith)) (λ v m h. absurd (omega (arith, r .0 v m)));
+            },
+        λ s. among-cons (λ v. v .place ≡ place → First (ruleNumber rule) (rulesAt all v) → Fault (ruleOf (suc k)) (w .place) ≡ Fault rule place)
+            (λ p f. rw (sym e ∙ first-given f, rule-back rule, p))
+            (λ v m p f. absurd (omega (arith, e, no-fault w .1 (s .before w here (omega (arith, r .0 v m))))))
+            (s .well) (s .among) (s .at) (s .first-broken),
+      )
