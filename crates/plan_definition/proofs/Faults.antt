@@ -28,7 +28,7 @@ use Rattle.plan_definition.proofs.Kept.{keeps}
 
 -- a rule's number isn't 0, and gives the rule back
 pub rule-number : (r : Rule) → (0 < ruleNumber r) × (ruleOf (ruleNumber r) ≡ r)
-unfolding ruleNumber ruleOf
+unfolding ruleOf
 rule-number Number = (omega arith, refl)
 rule-number Kind = (omega arith, refl)
 rule-number LinkCount = (omega arith, refl)
@@ -81,11 +81,11 @@ FirstFault ws = FaultAmong ws ws
 module _ (all : List Well) where
   -- 0 stands for a well that keeps the rules, any other number for one of them
   no-fault : (w : Well) → (firstOf (rulesAt all w) ≡ 0) ↔ Keeps all w
-  unfolding rulesAt rulesBy ruleNumber
+  unfolding rulesAt rulesBy
   no-fault w = Iff·trans (given-none (more (more (more (more (more (more (more (more none)))))))), none-given) (keeps all w)
 
   number-back : (w : Well) {k : ℕ} → First k (rulesAt all w) → ruleNumber (ruleOf k) ≡ k
-  unfolding rulesAt rulesBy ruleNumber ruleOf
+  unfolding rulesAt rulesBy ruleOf
   number-back w f = of-first (λ k. ruleNumber (ruleOf k) ≡ k) f (search)
 
   -- sound exactly when every well keeps the rules

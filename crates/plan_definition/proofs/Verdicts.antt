@@ -98,7 +98,7 @@ module _ (sheet : List ℕ) (n : ℕ) where
 
   -- C sees the number of the refusal
   pub answers : answerOf (verdict sheet n) .number ≡ firstOf (checkRefusals n (length sheet))
-  unfolding verdict whenDone answerOf
+  unfolding verdict whenDone
   answers =
       by-room n (length sheet) (λ j. answerOf (whenDone j (searched sheet n) (Refused j)) .number ≡ j)
       (λ r. zero-number (searched sheet n) (not-refused (wells n sheet) (wells n sheet))) (λ h. refl)
@@ -113,7 +113,7 @@ told : ContentAnswer → Verdict
 told a = whenDone (a .number) (foundAt (a .rule) (a .place) Sound) (Refused (a .number))
 
 told-back : (v : Verdict) → (v ≡ Refused 0 → ⊥) → told (answerOf v) ≡ v
-unfolding told whenDone answerOf foundAt
+unfolding told whenDone foundAt
 told-back (Refused zero) h = absurd (h refl)
 told-back (Refused (suc k)) h = refl
 told-back Sound h = refl

@@ -1,5 +1,5 @@
 -- The check of content: document 02, Q-1. "The check says sound, or gives the lowest faulty place with the first broken rule."
-use Prim.Native.Nat.{ℕ, zero, suc, _-_}
+use Prim.Native.Nat.{ℕ, zero, suc}
 use mathlib.Core.List.{List, [], _∷_}
 use lib.ListN.{length, getD}
 use Rattle.definition.specs.Refusal.{Refusal, firstOf, whenDone}
@@ -13,9 +13,9 @@ use Rattle.plan_definition.specs.declared.ContentAnswer.{ContentAnswer}
 use Rattle.plan_definition.specs.Well.{wells}
 use Rattle.plan_definition.specs.Rules.{ruleNumber, rulesAt}
 
--- the rule that has a number from 1 to 8
+-- the rule that has a number from 1 to 8; the first entry stands for none
 unfoldable pub ruleOf : ℕ → Rule
-ruleOf k = getD (Number ∷ Kind ∷ LinkCount ∷ Rate ∷ Links ∷ Shares ∷ UnusedLinks ∷ Repeat ∷ []) (k - 1) Repeat
+ruleOf k = getD (Repeat ∷ Number ∷ Kind ∷ LinkCount ∷ Rate ∷ Links ∷ Shares ∷ UnusedLinks ∷ []) k Repeat
 
 -- a place with the number of the first rule broken there: 0 leaves the verdict to the places after it
 unfoldable pub foundAt : (number place : ℕ) → (rest : Verdict) → Verdict
@@ -37,7 +37,7 @@ verdict sheet n =
     whenDone number (firstFault (wells n sheet) (wells n sheet)) (Refused number)
 
 -- this paper's numbers of a verdict: a refusal's, the rule's and the place; what a case doesn't have is 0
-unfoldable pub answerOf : Verdict → ContentAnswer
+abbrev pub answerOf : Verdict → ContentAnswer
 answerOf (Refused number) = record { number = number; rule = 0; place = 0 }
 answerOf Sound = record { number = 0; rule = 0; place = 0 }
 answerOf (Fault rule place) = record { number = 0; rule = ruleNumber rule; place = place }

@@ -88,7 +88,7 @@ unfoldable pub isBefore : List Well → (place number : ℕ) → Bool
 isBefore ws p k = some (λ v. ltb (v .place) p && eqb (v .number) k) ws
 
 -- this paper's numbers of the rules
-unfoldable pub ruleNumber : Rule → ℕ
+abbrev pub ruleNumber : Rule → ℕ
 ruleNumber Number = 1
 ruleNumber Kind = 2
 ruleNumber LinkCount = 3

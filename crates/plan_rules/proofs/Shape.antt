@@ -11,7 +11,7 @@ use borrow.Author.Tests.{eq-eqb, ne-eqb}
 use Rattle.definition.specs.Refusal.{pick, firstOf}
 use Rattle.definition.proofs.Refusals.{none, more, front-given, rest-given, none-of}
 use Rattle.plan_definition.specs.declared.Well.{Well}
-use Rattle.plan_definition.specs.Rules.{injector, breaksKind, breaksLinkCount, ruleNumber, rulesBy}
+use Rattle.plan_definition.specs.Rules.{injector, breaksKind, breaksLinkCount, rulesBy}
 use Rattle.plan_definition.specs.Sound.{KeepsKind, KeepsLinkCount}
 use Rattle.plan_definition.proofs.Kept.{kind-kept, link-count-kept}
 use Rattle.plan_rules.specs.Parts.{shapeRules, linkRules}
@@ -22,12 +22,12 @@ module _ (f g : ℕ → Bool) (w : Well) {k : ℕ} (e : k ≡ firstOf (shapeRule
   of-shape = front-given (shapeRules w) (linkRules f g w) e
 
   pub after-shape : k ≡ 0 → firstOf (rulesBy f g w) ≡ firstOf (linkRules f g w)
-  unfolding shapeRules linkRules rulesBy ruleNumber
+  unfolding shapeRules linkRules rulesBy
   after-shape = rest-given (linkRules f g w) (more (more (more (more none)))) e
 
 module _ (w : Well) (e : firstOf (shapeRules w) ≡ 0) where
   kept : (breaksKind w ≡ false) × (breaksLinkCount w ≡ false)
-  unfolding shapeRules ruleNumber
+  unfolding shapeRules
   kept = let h = none-of (shapeRules w) [] (omega arith) e .0 in (h .1 .0, h .1 .1 .0)
 
   -- at most four, and none of an injector

@@ -7,7 +7,7 @@ use native.Mathlib.Omega.{arith}
 use borrow.Author.Needs.{needs}
 use denote.Ref.{now}
 use Rattle.definition.specs.Refusal.{pick, firstOf}
-use Rattle.plan_definition.specs.Rules.{used, unused, breaksLinks, breaksShares, breaksUnusedLinks, breaksRepeat, ruleNumber, rulesBy}
+use Rattle.plan_definition.specs.Rules.{used, unused, breaksLinks, breaksShares, breaksUnusedLinks, breaksRepeat, rulesBy}
 use Rattle.plan_numbers.specs.Numbers.{has}
 use Rattle.plan_rules.specs.Parts.{shapeRules, linkRules, misshared}
 use Rattle.plan_rules.proofs.Shape.{of-shape, after-shape, few-links}
@@ -44,17 +44,17 @@ unused-links c =
     rw (few-links _ (shape (c .before .before .before .before .before .before .before)) .1) (c .unused-breaks .ensures)
 
 returns-2 : tie.Need-returns-2
-unfolding firstOf pick linkRules ruleNumber breaksLinks used
+unfolding firstOf pick linkRules breaksLinks used
 returns-2 c = rw (after (c .before .before .before .before), sym (c .before .links-break .ensures) ∙ c .if2 .taken)
 
 returns-3 : tie.Need-returns-3
-unfolding firstOf pick linkRules ruleNumber breaksShares used misshared
+unfolding firstOf pick linkRules breaksShares used misshared
 returns-3 c =
     let l = c .before .before in
     rw (after (l .before .before .before .before), links l, sym (c .before .shares-break .ensures) ∙ c .if3 .taken)
 
 returns-4 : tie.Need-returns-4
-unfolding firstOf pick linkRules ruleNumber
+unfolding firstOf pick linkRules
 returns-4 c =
     let s = c .before .before in
     let l = s .before .before in
@@ -63,7 +63,7 @@ returns-4 c =
 -- all but the last hold
 last : (c : tie.After-has) → let a = c .before .before .before .before .before .before .before .before .before .before .before .args in
     firstOf (rulesBy (has (now (a .injectors))) (has (now (a .seen))) (a .w)) ≡ pick (c .has .result) 8 0
-unfolding firstOf pick linkRules ruleNumber breaksRepeat
+unfolding firstOf pick linkRules breaksRepeat
 last c =
     let u = c .before in
     let s = u .before .before in

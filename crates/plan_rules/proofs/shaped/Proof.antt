@@ -5,13 +5,13 @@ use mathlib.Core.Bool.{false}
 use native.Mathlib.Omega.{arith}
 use borrow.Author.Tests.{eq-eqb, ne-eqb, lt-ltb, le-ltb}
 use Rattle.definition.specs.Refusal.{pick, firstOf}
-use Rattle.plan_definition.specs.Rules.{breaksNumber, breaksKind, breaksLinkCount, breaksRate, ruleNumber}
+use Rattle.plan_definition.specs.Rules.{breaksNumber, breaksKind, breaksLinkCount, breaksRate}
 use Rattle.plan_rules.specs.Parts.{shapeRules}
 use Rattle.plan_rules.proofs.shaped.Statement.{statement}
 use Rattle.plan_rules.proofs.shaped.Tie as tie
 
 returns : tie.Need-returns
-unfolding firstOf pick shapeRules ruleNumber breaksNumber
+unfolding firstOf pick shapeRules breaksNumber
 returns c = rw (eq-eqb _ _ (c .if1 .taken))
 
 -- the rules before a test hold where it is made
@@ -26,24 +26,24 @@ link-count : (c : tie.Else3) → breaksLinkCount (c .before .before .before .bef
 link-count c = sym (c .before .count-breaks .ensures) ∙ c .if3 .left
 
 returns-2 : tie.Need-returns-2
-unfolding firstOf pick shapeRules ruleNumber
+unfolding firstOf pick shapeRules
 returns-2 c = rw (number (c .before .before), sym (c .before .kind-breaks .ensures) ∙ c .if2 .taken)
 
 returns-3 : tie.Need-returns-3
-unfolding firstOf pick shapeRules ruleNumber
+unfolding firstOf pick shapeRules
 returns-3 c =
     let k = c .before .before in
     rw (number (k .before .before), kind k, sym (c .before .count-breaks .ensures) ∙ c .if3 .taken)
 
 returns-4 : tie.Need-returns-4
-unfolding firstOf pick shapeRules ruleNumber breaksRate
+unfolding firstOf pick shapeRules breaksRate
 returns-4 c =
     let l = c .before .before in
     let k = l .before .before in
     rw (number (k .before .before), kind k, link-count l, lt-ltb 100000 (k .before .before .before .before .args .w .rate) (omega arith))
 
 returns-5 : tie.Need-returns-5
-unfolding firstOf pick shapeRules ruleNumber breaksRate
+unfolding firstOf pick shapeRules breaksRate
 returns-5 c =
     let l = c .before .before in
     let k = l .before .before in
