@@ -6,4 +6,7 @@ pub mod Faults
 pub mod Verdicts
 pub mod Elsewhere
 pub mod Determined
+pub mod Computed
+pub mod Examples
+pub mod Instances
 pub mod Places

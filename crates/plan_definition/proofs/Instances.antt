@@ -1,0 +1,52 @@
+-- The hypotheses of the check's laws can be met: a sound sheet, a faulted one, and two sheets that differ where it isn't read.
+-- Assumes nothing.
+use mathlib.Core.Path.{_≡_, sym, ap, _∙_}
+use mathlib.Core.Bool.{Bool}
+use mathlib.Core.List.{List, [], _∷_, _++_}
+use Prim.Native.Nat.{ℕ, _+_, _*_, _≤_}
+use native.Mathlib.Omega.{arith}
+use lib.Dec.{eqb, eqb→eq}
+use lib.ListN.{length, getD, take, replicate}
+use Rattle.definition.specs.Buffer.{joined}
+use Rattle.definition.proofs.Cases.{everyBelow, at-below}
+use Rattle.plan_definition.specs.declared.Rule.the-variants.{Repeat}
+use Rattle.plan_definition.specs.declared.Verdict.the-variants.{Sound}
+use Rattle.plan_definition.specs.Well.{wells}
+use Rattle.plan_definition.specs.Sound.{Sound as SoundSheet}
+use Rattle.plan_definition.specs.Check.{verdict}
+use Rattle.plan_definition.proofs.Faults.{FirstFault}
+use Rattle.plan_definition.proofs.Verdicts.{sound-exactly, fault-exactly}
+use Rattle.plan_definition.proofs.Elsewhere.{elsewhere}
+use Rattle.plan_definition.proofs.Examples.{prod, inj, content-examples}
+
+-- a producer and its injector make a sound sheet: sound-exactly
+abbrev pub plan : List ℕ
+plan = joined (prod 1 ((2, 1000) ∷ []) ∷ inj 2 ∷ [])
+
+pub plan-sound : (2 ≤ 1024) × (40 * 2 ≤ length plan) × SoundSheet (wells 2 plan)
+plan-sound = sound-exactly plan 2 .0 (content-examples .producer-and-injector)
+
+-- under one number the injector, at the later place, is the first fault: fault-exactly
+abbrev pub repeated : List ℕ
+repeated = joined (prod 2 ((2, 1000) ∷ []) ∷ inj 2 ∷ [])
+
+pub repeated-faulty : (2 ≤ 1024) × (40 * 2 ≤ length repeated) × FirstFault (wells 2 repeated) Repeat 1
+repeated-faulty = fault-exactly repeated 2 Repeat 1 .0 (content-examples .repeat-across-kinds)
+
+-- the same plan with another note and a byte behind it: elsewhere
+abbrev pub noted : List ℕ
+noted = joined ((take 24 (prod 1 ((2, 1000) ∷ [])) ++ replicate 16 7) ∷ inj 2 ∷ (9 ∷ []) ∷ [])
+
+pub not-plan : plan ≡ noted → ⊥
+unfolding joined
+not-plan e = let z : _≡_ {A = ℕ} 1 7 = ap (λ (l : List ℕ). getD l 24 0) e in omega arith
+
+pub noted-sound : verdict noted 2 ≡ Sound
+unfolding joined
+noted-sound =
+    sym (elsewhere 2 plan noted (omega arith) (omega arith) (λ p j h k.
+    eqb→eq _ _ (at-below 24 (read p) (at-below 2 (λ p. everyBelow 24 (read p)) tt p h) j k)))
+    ∙ content-examples .producer-and-injector
+  where
+    read : ℕ → ℕ → Bool
+    read p j = eqb (getD plan (40 * p + j) 0) (getD noted (40 * p + j) 0)
