@@ -12,6 +12,7 @@ use Rattle.plan_definition.specs.Some.{some, Among}
 use Rattle.plan_definition.specs.Rules.{differ}
 use Rattle.plan_definition.proofs.Some.{some-true, some-false}
 
+-- a test that passes exactly where A holds, and one that fails exactly there
 abbrev pub Passes : Bool → Type 0 → Type 0
 Passes b A = (b ≡ true) ↔ A
 
@@ -44,7 +45,7 @@ module _ {a : Bool} {A : Type 0} where
   not-fails p = (λ e. p .0 (not-false a e), λ x. rw (p .1 x))
 
 module _ {A B : Type 0} where
-  -- two tests of which one passes, and neither
+  -- two tests of which one passes
   pub either : {a b : Bool} → Passes a A → Passes b B → Passes (a || b) (A ⊎ B)
   either {a = true} p q = (λ e. inl (p .0 refl), λ s. refl)
   either {a = false} {b = b} p q = (λ e. inr (q .0 e), up)
@@ -53,15 +54,16 @@ module _ {A B : Type 0} where
       up (inl x) = absurd (false≢true (p .1 x))
       up (inr y) = q .1 y
 
+  -- two that both fail
   pub neither : {a b : Bool} → Fails a A → Fails b B → Fails (a || b) (A × B)
   neither {a = a} {b = b} p q =
       (λ e. let h = either-false a b e in (p .0 (h .0), q .0 (h .1)), λ h. rw (p .1 (h .0)) (q .1 (h .1)))
 
-  -- both, and the second wherever the first doesn't pass
+  -- two tests that both pass
   pub both : {a b : Bool} → Passes a A → Passes b B → Passes (a && b) (A × B)
   both {a = a} {b = b} p q = (λ e. let h = both-true a b e in (p .0 (h .0), q .0 (h .1)), λ h. rw (p .1 (h .0)) (q .1 (h .1)))
 
-  -- where the first passes the second fails
+  -- a second that fails wherever the first passes
   pub where-first : {a b : Bool} → Passes a A → Fails b B → Fails (a && b) (A → B)
   where-first {a = true} p q = (λ e x. q .0 e, λ f. q .1 (f (p .0 refl)))
   where-first {a = false} p q = (λ e x. absurd (false≢true (p .1 x)), λ f. refl)
@@ -74,7 +76,7 @@ module _ {A B : Type 0} where
   agree {a = false} {b = true} p q = (λ e. absurd (true≢false e), λ i. absurd (false≢true (p .1 (i .1 (q .0 refl)))))
   agree {a = false} {b = false} p q = (λ e. (λ x. absurd (false≢true (p .1 x)), λ y. absurd (false≢true (q .1 y))), λ i. refl)
 
--- a test of the elements of a list
+-- a test of the elements of a list: that some passes, from where each does; and that none does, from where each fails
 module _ {A : Type 0} {f : A → Bool} {P : A → Type 0} (l : List A) where
   pub one-passes : ((a : A) → Passes (f a) (P a)) → Passes (some f l) ((a : A) × Among a l × P a)
   one-passes h =

@@ -26,7 +26,7 @@ use Rattle.plan_definition.specs.Check.{ruleOf, foundAt, firstFault}
 use Rattle.plan_definition.proofs.Some.{none-among, among-cons}
 use Rattle.plan_definition.proofs.Kept.{keeps}
 
--- a rule's number isn't 0, and gives the rule back
+-- a rule's number isn't 0, and the rule is had back from it
 pub rule-number : (r : Rule) → (0 < ruleNumber r) × (ruleOf (ruleNumber r) ≡ r)
 unfolding ruleOf
 rule-number Number = (omega arith, refl)
@@ -99,35 +99,36 @@ module _ (all : List Well) where
       go zero e i = (λ f. among-cons (Keeps all) (no-fault w .0 e) (i .0 f), λ h. i .1 (λ v m. h v (later m)))
       go (suc k) e i = (λ f. let z : _≡_ {A = ℕ} 0 1 = cc in absurd (omega arith), λ h. absurd (omega (arith, no-fault w .1 (h w here))))
 
-  -- a fault exactly when it is the first
-  pub first-faulty : (rule : Rule) (place : ℕ) (ws : List Well) → Rising ws
-      → (firstFault all ws ≡ Fault rule place) ↔ FaultAmong all ws rule place
-  unfolding firstFault foundAt
-  first-faulty rule place [] r = (λ e. let z : _≡_ {A = ℕ} 0 1 = cc in absurd (omega arith), λ s. absurd (none-among (s .among)))
-  first-faulty rule place (w ∷ ws) r = go (firstOf (rulesAt all w)) refl (first-faulty rule place ws (r .1))
-    where
-      go : (k : ℕ) → firstOf (rulesAt all w) ≡ k → (firstFault all ws ≡ Fault rule place) ↔ FaultAmong all ws rule place
-          → (foundAt k (w .place) (firstFault all ws) ≡ Fault rule place) ↔ FaultAmong all (w ∷ ws) rule place
-      go zero e i = (
-        λ f. let s = i .0 f in
-            record {
-              well = s .well;
-              among = later (s .among);
-              at = s .at;
-              first-broken = s .first-broken;
-              before = among-cons (λ v. v .place < place → Keeps all v) (λ h. no-fault w .0 e) (s .before);
-            },
-        λ s. i .1 (record {
-          well = s .well;
-          among = among-cons (λ v. First (ruleNumber rule) (rulesAt all v) → Among v ws) (λ f. absurd (omega (arith, first-given f, rule-number rule .0)))
-              (λ v m f. m) (s .well) (s .among) (s .first-broken);
-          at = s .at;
-          first-broken = s .first-broken;
-          before = λ v m. s .before v (later m);
-        }),
-      )
-      go (suc k) e i = (
-        λ f.
+  -- a fault exactly when it is the first: at a well that keeps the rules as among those after it, else at the well itself
+  module _ (rule : Rule) (place : ℕ) (w : Well) (ws : List Well) where
+    passed : Keeps all w → FaultAmong all ws rule place ↔ FaultAmong all (w ∷ ws) rule place
+    passed h = (
+      λ s. record {
+        well = s .well;
+        among = later (s .among);
+        at = s .at;
+        first-broken = s .first-broken;
+        before = among-cons (λ v. v .place < place → Keeps all v) (λ l. h) (s .before);
+      },
+      λ s. record {
+        well = s .well;
+        among = among-cons (λ v. First (ruleNumber rule) (rulesAt all v) → Among v ws) (λ f. absurd (clash f)) (λ v m f. m)
+            (s .well) (s .among) (s .first-broken);
+        at = s .at;
+        first-broken = s .first-broken;
+        before = λ v m. s .before v (later m);
+      },
+    )
+      where
+        clash : First (ruleNumber rule) (rulesAt all w) → ⊥
+        clash f = omega (arith, first-given f, no-fault w .1 h, rule-number rule .0)
+
+    stopped : ((v : Well) → Among v ws → w .place < v .place) → {k : ℕ} → firstOf (rulesAt all w) ≡ suc k
+        → (Fault (ruleOf (suc k)) (w .place) ≡ Fault rule place) ↔ FaultAmong all (w ∷ ws) rule place
+    stopped r {k} e = (there, λ s. back s (s .well) (s .among) (s .at) (s .first-broken))
+      where
+        there : Fault (ruleOf (suc k)) (w .place) ≡ Fault rule place → FaultAmong all (w ∷ ws) rule place
+        there f =
             let a : ruleOf (suc k) ≡ rule = cc in
             let p : w .place ≡ place = cc in
             let b = given-first (rulesAt all w) e in
@@ -136,10 +137,24 @@ module _ (all : List Well) where
               among = here;
               at = p;
               first-broken = rw (← a, number-back w b) b;
-              before = among-cons (λ v. v .place < place → Keeps all v) (λ h. absurd (omega arith)) (λ v m h. absurd (omega (arith, r .0 v m)));
-            },
-        λ s. among-cons (λ v. v .place ≡ place → First (ruleNumber rule) (rulesAt all v) → Fault (ruleOf (suc k)) (w .place) ≡ Fault rule place)
+              before = among-cons (λ v. v .place < place → Keeps all v) (λ h. absurd (omega arith)) (λ v m h. absurd (omega (arith, r v m)));
+            }
+
+        back : FaultAmong all (w ∷ ws) rule place → (v : Well) → Among v (w ∷ ws) → v .place ≡ place
+            → First (ruleNumber rule) (rulesAt all v) → Fault (ruleOf (suc k)) (w .place) ≡ Fault rule place
+        back s =
+            among-cons
+            (λ v. v .place ≡ place → First (ruleNumber rule) (rulesAt all v) → Fault (ruleOf (suc k)) (w .place) ≡ Fault rule place)
             (λ p f. rw (sym e ∙ first-given f, rule-back rule, p))
-            (λ v m p f. absurd (omega (arith, e, no-fault w .1 (s .before w here (omega (arith, r .0 v m))))))
-            (s .well) (s .among) (s .at) (s .first-broken),
-      )
+            (λ v m p f. absurd (omega (arith, e, no-fault w .1 (s .before w here (omega (arith, r v m))))))
+
+  pub first-faulty : (rule : Rule) (place : ℕ) (ws : List Well) → Rising ws
+      → (firstFault all ws ≡ Fault rule place) ↔ FaultAmong all ws rule place
+  unfolding firstFault foundAt
+  first-faulty rule place [] r = (λ e. let z : _≡_ {A = ℕ} 0 1 = cc in absurd (omega arith), λ s. absurd (none-among (s .among)))
+  first-faulty rule place (w ∷ ws) r = go (firstOf (rulesAt all w)) refl (first-faulty rule place ws (r .1))
+    where
+      go : (k : ℕ) → firstOf (rulesAt all w) ≡ k → (firstFault all ws ≡ Fault rule place) ↔ FaultAmong all ws rule place
+          → (foundAt k (w .place) (firstFault all ws) ≡ Fault rule place) ↔ FaultAmong all (w ∷ ws) rule place
+      go zero e i = Iff·trans i (passed rule place w ws (no-fault w .0 e))
+      go (suc k) e i = stopped rule place w ws (r .0) e

@@ -3,6 +3,7 @@ pub mod Some
 pub mod Exactly
 pub mod Kept
 pub mod Faults
+pub mod Ranked
 pub mod Verdicts
 pub mod Elsewhere
 pub mod Determined
