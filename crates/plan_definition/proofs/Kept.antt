@@ -60,6 +60,11 @@ pub repeat-kept : (ws : List Well) (w : Well) → Fails (breaksRepeat (isBefore 
 unfolding breaksRepeat isBefore KeepsRepeat
 repeat-kept ws w = none-passes ws (λ v. where-first (less (v .place) (w .place)) (not-equal (v .number) (w .number)))
 
+-- a number stands before a place exactly when a well there has it
+pub earlier : (ws : List Well) (p k : ℕ) → Passes (isBefore ws p k) ((v : Well) × Among v ws × ((v .place < p) × (v .number ≡ k)))
+unfolding isBefore
+earlier ws p k = one-passes ws (λ v. both (less (v .place) p) (equal (v .number) k))
+
 -- a number is an injector's exactly when it names one
 pub named : (ws : List Well) (k : ℕ) → Passes (isInjectorOf ws k) (NamesInjector ws k)
 unfolding isInjectorOf injector NamesInjector

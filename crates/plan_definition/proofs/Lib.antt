@@ -2,6 +2,7 @@
 pub mod Some
 pub mod Exactly
 pub mod Kept
+pub mod Places
 pub mod Faults
 pub mod Ranked
 pub mod Verdicts
@@ -10,4 +11,3 @@ pub mod Determined
 pub mod Computed
 pub mod Examples
 pub mod Instances
-pub mod Places

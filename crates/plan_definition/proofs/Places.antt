@@ -17,7 +17,7 @@ use Rattle.plan_definition.specs.Some.Among.{here, later}
 use Rattle.plan_definition.specs.Well.{wellOf, wellsFrom, wells}
 use Rattle.plan_definition.specs.Rules.{isBefore}
 use Rattle.plan_definition.proofs.Some.{none-among, among-cons, some-false}
-use Rattle.plan_definition.proofs.Exactly.{less, equal, both, one-passes}
+use Rattle.plan_definition.proofs.Kept.{earlier}
 
 -- two tests that pass alike are equal
 alike : {a b : Bool} → (a ≡ true → b ≡ true) → (b ≡ true → a ≡ true) → a ≡ b
@@ -72,9 +72,9 @@ module _ (n : ℕ) (sheet : List ℕ) where
 
   -- a place before j has the number
   pub before-exactly : (j k : ℕ) → (isBefore (wells n sheet) j k ≡ true) ↔ ((p : ℕ) × (p < n) × (p < j) × (wellAt p sheet .number ≡ k))
-  unfolding isBefore wellOf
+  unfolding wellOf
   before-exactly j k =
-      Iff·trans (one-passes (wells n sheet) (λ v. both (less (v .place) j) (equal (v .number) k))) (
+      Iff·trans (earlier (wells n sheet) j k) (
         λ s. let at = wells-at (s .0) .0 (s .1) in (at .0, at .1, rw (at .2) at (s .2 .0), rw (at .2) at (s .2 .1)),
         λ s. (wellAt (s .0) sheet, wells-at (wellAt (s .0) sheet) .1 (s .0, s .1, refl), (s .2, s .3)),
       )
@@ -89,8 +89,8 @@ module _ (n : ℕ) (sheet : List ℕ) where
       → isBefore (wells n sheet) (suc i) k ≡ (eqb (wellAt i sheet .number) k || isBefore (wells n sheet) i k)
   before-step i k h = go (eqb (wellAt i sheet .number) k) refl
     where
-      earlier : eqb (wellAt i sheet .number) k ≡ false → isBefore (wells n sheet) (suc i) k ≡ true → isBefore (wells n sheet) i k ≡ true
-      earlier e t =
+      other : eqb (wellAt i sheet .number) k ≡ false → isBefore (wells n sheet) (suc i) k ≡ true → isBefore (wells n sheet) i k ≡ true
+      other e t =
           let s = before-exactly (suc i) k .0 t in
           let d : s .0 ≡ i → ⊥ = λ q. eqb-false _ k e (rw q at (s .3)) in
           before-exactly i k .1 (s .0, s .1, omega arith, s .3)
@@ -100,4 +100,4 @@ module _ (n : ℕ) (sheet : List ℕ) where
 
       go : (b : Bool) → eqb (wellAt i sheet .number) k ≡ b → isBefore (wells n sheet) (suc i) k ≡ (b || isBefore (wells n sheet) i k)
       go true e = before-exactly (suc i) k .1 (i, h, omega arith, eqb-true _ k e)
-      go false e = alike (earlier e) still
+      go false e = alike (other e) still

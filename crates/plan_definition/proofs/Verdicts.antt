@@ -31,6 +31,7 @@ abbrev pub NoRoom : (n sheet : ℕ) → Type 0
 NoRoom n sheet = (1024 < n) ⊎ (sheet < 40 * n)
 
 module _ (n sheet : ℕ) where
+  -- there is never both
   pub not-both : Room n sheet → NoRoom n sheet → ⊥
   not-both r (inl h) = omega arith
   not-both r (inr h) = omega arith
@@ -112,6 +113,7 @@ module _ (sheet : List ℕ) (n : ℕ) where
 told : ContentAnswer → Verdict
 told a = whenDone (a .number) (foundAt (a .rule) (a .place) Sound) (Refused (a .number))
 
+-- every verdict but a refusal by 0, which is none
 told-back : (v : Verdict) → (v ≡ Refused 0 → ⊥) → told (answerOf v) ≡ v
 unfolding told whenDone foundAt
 told-back (Refused zero) h = absurd (h refl)
