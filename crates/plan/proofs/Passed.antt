@@ -1,0 +1,36 @@
+-- What the check's sets hold place by place, and the rules by them.
+-- Assumes nothing.
+use mathlib.Core.Path.{_≡_, refl, fun-ext}
+use mathlib.Core.Bool.{Bool, true, false, _||_}
+use mathlib.Core.List.{List, _∷_}
+use Prim.Native.Nat.{ℕ}
+use lib.Dec.{eqb}
+use Rattle.definition.specs.Refusal.{firstOf}
+use Rattle.plan_definition.specs.declared.Well.{Well}
+use Rattle.plan_definition.specs.Some.{some}
+use Rattle.plan_definition.specs.Rules.{injector, isInjectorOf, isBefore, rulesBy, rulesAt}
+use Rattle.plan_numbers.specs.Numbers.{has, Adds}
+
+-- two numbers are put in either order
+either-first : (a b c : Bool) → (b || (a || c)) ≡ (a || b || c)
+either-first true true c = refl
+either-first true false c = refl
+either-first false b c = refl
+
+module _ (w : Well) (ws : List Well) (t : List ℕ) (k : ℕ) where
+  -- an injector is put into the set
+  pub with-injector : (t' : List ℕ) → injector w ≡ true → Adds (w .number) t t'
+      → (isInjectorOf ws k || has t' k) ≡ (isInjectorOf (w ∷ ws) k || has t k)
+  unfolding isInjectorOf some Adds
+  with-injector t' e h = rw (h k, e) (either-first (eqb (w .number) k) (isInjectorOf ws k) (has t k))
+
+  -- another well isn't
+  pub with-other : injector w ≡ false → (isInjectorOf ws k || has t k) ≡ (isInjectorOf (w ∷ ws) k || has t k)
+  unfolding isInjectorOf some
+  with-other e = rw e
+
+-- the rules by sets that stand for a sheet's injectors and for the places before a well are that well's rules in the sheet
+pub by-sets : (ws : List Well) (f g : ℕ → Bool) (v w : Well) → f ≡ isInjectorOf ws → ((k : ℕ) → g k ≡ isBefore ws (w .place) k) → v ≡ w
+    → firstOf (rulesBy f g v) ≡ firstOf (rulesAt ws w)
+unfolding rulesAt
+by-sets ws f g v w p q r = λ i. firstOf (rulesBy (p i) (fun-ext q i) (r i))

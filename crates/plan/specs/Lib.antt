@@ -1,0 +1,2 @@
+-- What the check's sets hold.
+pub mod Sets
