@@ -1,7 +1,6 @@
 -- What the first four rules leave to the other four: which of these is first, and no more than four links, all of an injector's unused.
 -- Assumes nothing.
 use mathlib.Core.Path.{_≡_}
-use mathlib.Core.Logic.{_⊎_}
 use mathlib.Core.Logic._⊎_.{inl, inr}
 use mathlib.Core.Bool.{Bool, false}
 use mathlib.Core.List.{[]}

@@ -1,7 +1,6 @@
 // The first rule of the request that a well breaks (document 02, Q-1), with the numbers of the sheet's injectors and those of the places before it
 // handed over as sets.
 ghost use mathlib.Core.Path.{_≡_};
-ghost use mathlib.Core.List.{[], _∷_};
 ghost use Prim.Native.Nat.{_≤_};
 ghost use lib.ListN.{drop};
 ghost use lib.Seq.{slice};

@@ -1,16 +1,15 @@
 -- `plan::first_broken` meets its contract. The loop's invariant: what is left decides, and the set has the numbers of the places passed.
 -- Assumes nothing.
-use mathlib.Core.Path.{_≡_, sym, ap, _∙_, fun-ext}
+use mathlib.Core.Path.{_≡_, sym, ap, _∙_}
 use mathlib.Core.Bool.{_||_}
-use Prim.Native.Nat.{ℕ, suc, _-_, _<_, _≤_}
+use Prim.Native.Nat.{ℕ, suc, _-_, _≤_}
 use native.Mathlib.Numerals.{add-one}
 use native.Mathlib.Omega.{arith}
-use borrow.Author.Needs.{needs}
 use denote.Ref.{now}
 use lib.Dec.{eqb}
 use Rattle.definition.specs.Refusal.{firstOf}
 use Rattle.plan_definition.specs.Well.{wellOf, wells}
-use Rattle.plan_definition.specs.Rules.{isInjectorOf, isBefore, rulesBy, rulesAt}
+use Rattle.plan_definition.specs.Rules.{isBefore, rulesAt}
 use Rattle.plan_definition.specs.Check.{foundAt, firstFault}
 use Rattle.plan_definition.proofs.Places.{wellAt, left, left-all, left-step, left-none, before-none, before-step}
 use Rattle.plan_definition.proofs.Faults.{found}

@@ -7,7 +7,6 @@ use mathlib.Core.List.{_∷_}
 use Prim.Native.Nat.{ℕ, suc, _-_, _≤_}
 use native.Mathlib.Numerals.{add-one}
 use native.Mathlib.Omega.{arith}
-use borrow.Author.Needs.{needs}
 use borrow.Author.Tests.{eq-eqb, ne-eqb}
 use denote.Ref.{now}
 use Rattle.plan_definition.specs.Some.{some}
