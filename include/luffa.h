@@ -1,6 +1,7 @@
 /*
  * luffa.h: Luffa digests (Luffa specification 2.0.1) of 224, 256, 384 and 512 bits, in one call or
- * piece by piece, and a sheet of records that is saved under its digest.
+ * piece by piece, a sheet of records that is saved under its digest, and a check of what its records
+ * mean.
  *
  * Every call answers a number: LUFFA_DONE, or the first refusal that holds, in the order listed at
  * the call. A refused call has altered nothing, so look at the answer before you use a buffer. The
@@ -43,7 +44,7 @@ extern "C" {
 #define LUFFA_OUT 2    /* the output buffer is shorter than the digest */
 #define LUFFA_RECORD 3 /* the hash record isn't well formed, or has another length */
 #define LUFFA_LONG 4   /* the message would pass LUFFA_LIMIT */
-/* 5 to 11 are given by the sheet calls alone. */
+/* 5 to 11 are given by the sheet calls, and 5 by luffa_plan_check too. */
 #define LUFFA_SHEET 5  /* too many records, or the buffer is too short for them */
 #define LUFFA_MARKS 6  /* too few words for the marks */
 #define LUFFA_PLACE 7  /* no record at this place */
@@ -230,6 +231,66 @@ struct luffa_sheet_answer luffa_sheet_append(size_t code, uint8_t *sheet, size_t
 struct luffa_sheet_answer luffa_sheet_drop(size_t code, uint8_t *sheet, size_t sheet_len, size_t n, uint32_t *marks,
                                            size_t marks_len, const uint8_t *claim, size_t claim_len, uint8_t *out,
                                            size_t out_len);
+
+/*
+ * What the records of a sheet mean to the balancer. The sheet calls above never ask: they save any 40
+ * bytes. Each record is a well, its numbers high byte first:
+ *   bytes 0 and 1      the well's number, not 0 and unlike every other of the sheet
+ *   byte 2             its kind, LUFFA_PRODUCER or LUFFA_INJECTOR
+ *   byte 3             its link count: the links that it uses
+ *   bytes 4 to 7       its rate in tonnes a day, at most LUFFA_RATE_MOST
+ *   bytes 8 to 23      four links of four bytes: the number of an injector, then a share in thousandths
+ *   bytes 24 to 39     a note, free
+ */
+#define LUFFA_WELL_NUMBER 0
+#define LUFFA_WELL_KIND 2
+#define LUFFA_WELL_LINK_COUNT 3
+#define LUFFA_WELL_RATE 4
+#define LUFFA_WELL_LINKS 8
+#define LUFFA_WELL_NOTE 24
+
+/* Link k of a record, k from 0 to LUFFA_LINKS_MOST - 1: its injector's number and its share. */
+#define LUFFA_LINK_INJECTOR(k) (LUFFA_WELL_LINKS + 4 * (k))
+#define LUFFA_LINK_SHARE(k) (LUFFA_WELL_LINKS + 4 * (k) + 2)
+
+#define LUFFA_PRODUCER 1
+#define LUFFA_INJECTOR 2
+#define LUFFA_LINKS_MOST 4
+#define LUFFA_RATE_MOST 100000
+#define LUFFA_SHARES_TOTAL 1000
+
+/*
+ * The rules, in the order in which each record is held to them, and what breaks each. A record uses the
+ * first (link count) of its four links.
+ */
+#define LUFFA_SOUND 0
+#define LUFFA_RULE_NUMBER 1       /* the number is 0 */
+#define LUFFA_RULE_KIND 2         /* the kind is neither 1 nor 2 */
+#define LUFFA_RULE_LINK_COUNT 3   /* a producer has more than 4 links, or none at a rate that isn't 0, or
+                                     some at rate 0; an injector has any */
+#define LUFFA_RULE_RATE 4         /* the rate is over LUFFA_RATE_MOST */
+#define LUFFA_RULE_LINKS 5        /* a used link has a number that no record of the sheet has with kind 2,
+                                     at any place, sound or not; or two used links have the same */
+#define LUFFA_RULE_SHARES 6       /* a used link's share isn't 1 to LUFFA_SHARES_TOTAL, or there are used
+                                     links and their shares don't add up to it */
+#define LUFFA_RULE_UNUSED_LINKS 7 /* a byte of a link that isn't used isn't 0; an injector uses none */
+#define LUFFA_RULE_REPEAT 8       /* a record at an earlier place has the same number */
+
+/* Look at number first: where it isn't LUFFA_DONE, rule and place are 0 and say nothing. Where it is,
+   rule is LUFFA_SOUND and place 0, or rule is the first that the record at this place breaks, counted
+   from 0, and no record at a lower place breaks any. */
+struct luffa_content_answer {
+    uint64_t number, rule, place;
+};
+
+/*
+ * Whether the n records of a sheet are sound, or else the lowest faulty place and the first rule that
+ * is broken there. A sheet of no records is sound. Nothing is written; notes and what lies behind the
+ * n-th record don't matter. The time is a fixed part and so much a record, however many there are. The
+ * call takes up to 17 KiB of stack, every other one up to 4 KiB.
+ *   5 LUFFA_SHEET   n is over LUFFA_SHEET_MOST, or sheet_len is less than 40n
+ */
+struct luffa_content_answer luffa_plan_check(const uint8_t *sheet, size_t sheet_len, size_t n);
 
 #ifdef __cplusplus
 }

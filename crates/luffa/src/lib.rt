@@ -5,7 +5,9 @@ ghost use mathlib.Core.Path.{_≡_};
 ghost use Rattle.hash_definition.specs.Calls.{digestOutcome, startOutcome, feedOutcome, finishOutcome};
 ghost use Rattle.hash_definition.specs.Lent.{lentStartOutcome, lentFeedOutcome, lentFinishOutcome};
 ghost use Rattle.sheet_definition.specs.SheetCalls.{buildOutcome, changeOutcome, appendOutcome, dropOutcome};
+ghost use Rattle.plan_definition.specs.Check.{verdict, answerOf};
 use hash_definition::Kept;
+use plan_definition::ContentAnswer;
 use sheet_definition::Answer;
 
 // The digest of a message in one call.
@@ -131,4 +133,12 @@ pub extern "C" fn luffa_sheet_drop(
     ensures { λ r. ⌜ record { answer = r; sheet = now (sheet .exit); marks = now (marks .exit); out = now (out .exit) } ≡ dropOutcome code (now (sheet .entry)) n (now (marks .entry)) (now (claim .entry)) (now (out .entry)) ⌝ }
 {
     sheet::drop(code, sheet, n, marks, claim, out)
+}
+
+// Whether the records of a sheet make sense, in this paper's numbers.
+#[no_mangle]
+pub extern "C" fn luffa_plan_check(sheet: &[u8], n: usize) -> ContentAnswer
+    ensures { λ r. ⌜ r ≡ answerOf (verdict (now (sheet .entry)) n) ⌝ }
+{
+    plan::answer(plan::check(sheet, n))
 }
