@@ -1,12 +1,16 @@
 //! A separately written Luffa program, to compare another one with. The hash is in luffa.rs; the
-//! four output lines are those of the digest program in the build requirements, and `words` gives
-//! the longer outputs of section 5 of the Luffa specification 2.0.1.
+//! four output lines are those of the digest program in the build requirements, `words` gives the
+//! longer outputs of section 5 of the Luffa specification 2.0.1, and `plan` is the check of a sheet's
+//! content.
 
 mod check;
 mod luffa;
+mod plan;
 mod sheet;
 
 use luffa::{digest, Luffa, CODES};
+use plan::Well;
+use sheet::{MOST, RECORD_BYTES};
 use std::fs::File;
 use std::io::{self, BufRead, BufReader, BufWriter, ErrorKind, Read, Write};
 use std::os::fd::AsFd;
@@ -16,6 +20,7 @@ const USAGE: &str = "\
 usage: independent               four digest lines for standard input
        independent words CODE N  the first N words of the final stage, and its blank rounds
        independent pieces        a digest for each line `CODE HEX` of standard input
+       independent plan          whether the records on standard input are a sound sheet
        independent check         checks itself against the specification";
 
 /// The house limit on message bytes.
@@ -31,6 +36,7 @@ fn main() -> ExitCode {
             _ => return usage(),
         },
         ["pieces"] => pieces(),
+        ["plan"] => plan_fault(),
         ["check"] => check_all(),
         _ => return usage(),
     };
@@ -91,9 +97,14 @@ fn print(text: &str) -> io::Result<()> {
     output.flush()
 }
 
-fn over_limit() -> io::Result<ExitCode> {
-    print("4\n")?;
+/// Prints what says that all isn't well.
+fn failed(text: &str) -> io::Result<ExitCode> {
+    print(text)?;
     Ok(ExitCode::FAILURE)
+}
+
+fn over_limit() -> io::Result<ExitCode> {
+    failed("4\n")
 }
 
 fn four_lines() -> io::Result<ExitCode> {
@@ -158,6 +169,23 @@ fn pieces() -> io::Result<ExitCode> {
         writeln!(output, "{}", hex(&digest(code, &message)))?;
     }
     output.flush()?;
+    Ok(ExitCode::SUCCESS)
+}
+
+fn plan_fault() -> io::Result<ExitCode> {
+    let most = RECORD_BYTES * MOST;
+    let mut bytes = Vec::new();
+    // A byte more than a sheet can have shows that there are too many.
+    input()?.take(most as u64 + 1).read_to_end(&mut bytes)?;
+    let (records, rest) = bytes.as_chunks();
+    if !rest.is_empty() {
+        return failed("5\n");
+    }
+    let wells: Vec<Well> = records.iter().map(Well::read).collect();
+    if let Some((place, rule)) = plan::fault(&wells) {
+        return failed(&format!("{place} {rule}\n"));
+    }
+    print("sound\n")?;
     Ok(ExitCode::SUCCESS)
 }
 
