@@ -5,28 +5,16 @@
 
 use crate::calls;
 use crate::luffa::CODES;
+use crate::met::Met;
 use crate::model::digest_bytes;
 use crate::sheet::{Saved, Sheet, MARK_WORDS, MOST, RECORD_BYTES};
 use crate::sheet_model::{held, refusals, Answer, Call, Given};
 use crate::{Agreed, Numbers};
 use std::cmp::Ordering::Equal;
-use std::collections::BTreeMap;
 
 const CALLS: [Call; 4] = [Call::Build, Call::Change, Call::Append, Call::Drop];
 
-/// How often each kind of thing was met.
-#[derive(Default)]
-pub struct Met(BTreeMap<String, u64>);
-
 impl Met {
-    fn see(&mut self, kind: String) {
-        *self.0.entry(kind).or_default() += 1;
-    }
-
-    fn times(&self, kind: &str) -> u64 {
-        self.0.get(kind).copied().unwrap_or(0)
-    }
-
     /// Counts what a call was: the number answered, and the refusals that hold.
     fn note(&mut self, call: Call, given: &Given, number: u64, hold: &[u64], false_marks: bool) {
         let (code, n) = (given.code, given.n);
@@ -76,24 +64,18 @@ impl Met {
             _ => (),
         }
     }
+}
 
-    /// Prints the counts, and answers the kinds that should have been met and weren't.
-    pub fn print(&self) -> Vec<String> {
-        println!("sheet calls, by the number answered:");
-        for call in CALLS {
-            let name = format!("{call:?}");
-            let times = |number| self.times(&format!("{call:?} answered {number}"));
-            let line = numbers_of(call).map(|number| format!(" {number}: {}", times(number)));
-            println!("  {name:<7}{}", line.collect::<String>());
-        }
-        let kinds = wanted();
-        if let Some(rarest) = kinds.iter().min_by_key(|kind| self.times(kind)) {
-            let (all, times) = (kinds.len(), self.times(rarest));
-            println!("  of {all} kinds to be met, the rarest came {times} times: {rarest}");
-        }
-        let unmet = kinds.into_iter().filter(|kind| self.times(kind) == 0);
-        unmet.collect()
+/// Prints the counts, and answers the kinds that should have been met and weren't.
+pub fn print(met: &Met) -> Vec<String> {
+    println!("sheet calls, by the number answered:");
+    for call in CALLS {
+        let name = format!("{call:?}");
+        let times = |number| met.times(&format!("{call:?} answered {number}"));
+        let line = numbers_of(call).map(|number| format!(" {number}: {}", times(number)));
+        println!("  {name:<7}{}", line.collect::<String>());
     }
+    met.unmet(wanted())
 }
 
 /// Every kind that a whole run has to meet.

@@ -4,6 +4,7 @@
 
 mod calls;
 mod histories;
+mod met;
 mod model;
 mod sheet_model;
 
@@ -14,7 +15,7 @@ mod luffa;
 #[allow(dead_code)]
 mod sheet;
 
-use histories::Met;
+use met::Met;
 use model::{digest_bytes, state_end, well_formed, COUNT, LIMIT, PENDING, RECORD, STATE};
 use std::time::SystemTime;
 
@@ -259,7 +260,7 @@ fn main() {
             std::process::exit(1);
         }
     }
-    let unmet = met.print();
+    let unmet = histories::print(&met);
     // A few cases can't meet everything.
     if cases >= CASES && !unmet.is_empty() {
         println!("never met: {}", unmet.join("; "));
