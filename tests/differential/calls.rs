@@ -2,6 +2,7 @@
 //! every byte lent, with those around it, must agree.
 
 use crate::model;
+use crate::plan_model::{self, ContentAnswer};
 use crate::sheet_model::{self, Answer, Call, Given};
 use std::fmt::{Debug, Write};
 
@@ -67,6 +68,7 @@ extern "C" {
         out: *mut u8,
         out_len: usize,
     ) -> Answer;
+    fn luffa_plan_check(sheet: *const u8, sheet_len: usize, n: usize) -> ContentAnswer;
 }
 
 /// A buffer to lend, with watched bytes on both sides.
@@ -262,4 +264,12 @@ pub fn sheet(call: Call, given: &mut Given) -> Result<Answer, String> {
             (o, &given.out),
         ],
     )
+}
+
+pub fn plan(sheet: &[u8], n: usize) -> Result<ContentAnswer, String> {
+    let want = plan_model::answer(sheet, n);
+    let mut s = Lent::new(sheet);
+    let got = unsafe { luffa_plan_check(s.pointer(), sheet.len(), n) };
+    let call = format!("luffa_plan_check of {n} records: buffer 0 the sheet");
+    agree(&call, &[sheet], got, want, &[(s, sheet)])
 }

@@ -1,16 +1,22 @@
 //! The archive against a model of its calls over the separately written program, on random messages,
-//! cuts, records and sheets: differential [SEED [CASES]]. Case k of a seed is case 0 of the seed k
-//! higher, so that one that failed is run again alone.
+//! cuts, records, sheets and plans: differential [SEED [CASES]]. Case k of a seed is case 0 of the
+//! seed k higher, so that one that failed is run again alone.
 
 mod calls;
 mod histories;
 mod met;
 mod model;
+mod plan_kinds;
+mod plan_model;
+mod plans;
 mod sheet_model;
 
 #[path = "../independent/luffa.rs"]
 #[allow(dead_code)]
 mod luffa;
+#[path = "../independent/plan.rs"]
+#[allow(dead_code)]
+mod plan;
 #[path = "../independent/sheet.rs"]
 #[allow(dead_code)]
 mod sheet;
@@ -106,6 +112,9 @@ type Agreed = Result<(), String>;
 
 /// The cases of a run that isn't told how many.
 const CASES: u64 = 8000;
+
+/// The plans of a case.
+const PLANS: usize = 6;
 
 /// A message at every code: in one call, and in random pieces with a finish now and then.
 fn message(numbers: &mut Numbers) -> Agreed {
@@ -238,7 +247,11 @@ fn case(seed: u64, met: &mut Met) -> Agreed {
         malformed(numbers)?;
         arguments(numbers)?;
     }
-    histories::history(numbers, met)
+    histories::history(numbers, met)?;
+    for _ in 0..PLANS {
+        plans::plan(numbers, met)?;
+    }
+    Ok(())
 }
 
 fn main() {
@@ -260,7 +273,7 @@ fn main() {
             std::process::exit(1);
         }
     }
-    let unmet = histories::print(&met);
+    let unmet = [histories::print(&met), plan_kinds::print(&met)].concat();
     // A few cases can't meet everything.
     if cases >= CASES && !unmet.is_empty() {
         println!("never met: {}", unmet.join("; "));
