@@ -20,6 +20,16 @@ HOLDS(LUFFA_MARKS_FOR(0) == 40 && LUFFA_MARKS_FOR(3) == 40 && LUFFA_MARKS_FOR(4)
 HOLDS(LUFFA_MARKS_FOR(LUFFA_SHEET_MOST) == 10280 && LUFFA_MARKS_FOR(1 + 2) == 40);
 HOLDS(sizeof(struct luffa_sheet_answer) == 24 && offsetof(struct luffa_sheet_answer, number) == 0 &&
       offsetof(struct luffa_sheet_answer, count) == 8 && offsetof(struct luffa_sheet_answer, rounds) == 16);
+HOLDS(LUFFA_WELL_NUMBER == 0 && LUFFA_WELL_KIND == 2 && LUFFA_WELL_LINK_COUNT == 3 && LUFFA_WELL_RATE == 4);
+HOLDS(LUFFA_WELL_LINKS == 8 && LUFFA_WELL_NOTE == 24 && LUFFA_LINKS_MOST == 4);
+HOLDS(LUFFA_LINK_INJECTOR(0) == 8 && LUFFA_LINK_SHARE(0) == 10 && LUFFA_LINK_INJECTOR(1 + 2) == 20);
+HOLDS(LUFFA_LINK_SHARE(1 + 2) == 22 && 2 * LUFFA_LINK_SHARE(3) == 44);
+HOLDS(LUFFA_PRODUCER == 1 && LUFFA_INJECTOR == 2 && LUFFA_RATE_MOST == 100000 && LUFFA_SHARES_TOTAL == 1000);
+HOLDS(LUFFA_SOUND == 0 && LUFFA_RULE_NUMBER == 1 && LUFFA_RULE_KIND == 2 && LUFFA_RULE_LINK_COUNT == 3);
+HOLDS(LUFFA_RULE_RATE == 4 && LUFFA_RULE_LINKS == 5 && LUFFA_RULE_SHARES == 6 && LUFFA_RULE_UNUSED_LINKS == 7);
+HOLDS(LUFFA_RULE_REPEAT == 8);
+HOLDS(sizeof(struct luffa_content_answer) == 24 && offsetof(struct luffa_content_answer, number) == 0 &&
+      offsetof(struct luffa_content_answer, rule) == 8 && offsetof(struct luffa_content_answer, place) == 16);
 HOLDS(sizeof(struct luffa_hash) == 208 && offsetof(struct luffa_hash, code) == 0 &&
       offsetof(struct luffa_hash, state) == 8 && offsetof(struct luffa_hash, pending) == 168 &&
       offsetof(struct luffa_hash, count) == 200);
@@ -41,6 +51,7 @@ static answer (*const append)(size_t, uint8_t *, size_t, size_t, uint32_t *, siz
                               const uint8_t *, size_t, uint8_t *, size_t) = luffa_sheet_append;
 static answer (*const drop)(size_t, uint8_t *, size_t, size_t, uint32_t *, size_t, const uint8_t *, size_t, uint8_t *,
                             size_t) = luffa_sheet_drop;
+static struct luffa_content_answer (*const plan_check)(const uint8_t *, size_t, size_t) = luffa_plan_check;
 
 int main(void)
 {
@@ -61,5 +72,6 @@ int main(void)
            change(LUFFA_512, sheet, sizeof sheet, 1, marks, LUFFA_MARKS_FOR(1), 1, line, sizeof line, out, sizeof out,
                   claim, sizeof claim).number != LUFFA_PLACE ||
            drop(LUFFA_512, sheet, sizeof sheet, 1, marks, LUFFA_MARKS_FOR(1), out, sizeof out, claim, sizeof claim)
-                   .count != 0;
+                   .count != 0 ||
+           plan_check(sheet, sizeof sheet, 1).rule != LUFFA_RULE_NUMBER;
 }

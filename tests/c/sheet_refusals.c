@@ -2,8 +2,6 @@
    which the lowest is given. What is refused changes nothing; sheet_call sees to that. */
 #include "test.h"
 
-#define COUNT_OF(array) (sizeof(array) / sizeof *(array))
-
 /* The sheet as built, and the one that is spoilt. A refused call leaves the sheet and the marks, so
    that only the rest is put right again. */
 static struct sheet built, s;
@@ -15,13 +13,6 @@ static void put_right(void)
 }
 
 static const size_t unknown[] = {0, 5, 256 + 2, ((size_t)1 << 32) + 4, (size_t)1 << 63, SIZE_MAX};
-
-/* Among them such as are few once they are cut to 32 bits, and such as need few bytes or words once
-   the product is cut to 64. */
-static const size_t too_many[] = {
-    MOST + 1,          MOST + 4,          (size_t)1 << 32,   ((size_t)1 << 32) + 5, (size_t)1 << 62, (size_t)1 << 63,
-    SIZE_MAX / 40 + 1, SIZE_MAX / 40 + 2, SIZE_MAX / 10 + 1, SIZE_MAX - 1023,       SIZE_MAX - 3,    SIZE_MAX,
-};
 
 /* Places after the last record, from n on; among them such as are before it once they are cut. */
 static const size_t beyond[] = {

@@ -284,6 +284,12 @@ void hash_finish_call(uint32_t want, const struct luffa_hash *hash, size_t out_l
 const char *const call_names[4] = {"build", "change", "append", "drop"};
 const size_t final_rounds[5] = {0, 1, 1, 2, 2};
 
+const size_t too_many[15] = {
+    MOST + 1,          MOST + 4,          ((size_t)1 << 16) + 5, (size_t)1 << 32, ((size_t)1 << 32) + 5,
+    (size_t)1 << 61,   (size_t)1 << 62,   ((size_t)1 << 61) + 5, (size_t)1 << 63, SIZE_MAX / 40 + 1,
+    SIZE_MAX / 40 + 2, SIZE_MAX / 10 + 1, SIZE_MAX - 1023,       SIZE_MAX - 3,    SIZE_MAX,
+};
+
 void any_sheet(struct sheet *s, size_t code, size_t n, size_t more)
 {
     memset(s, 0, sizeof *s);
@@ -412,4 +418,17 @@ struct luffa_sheet_answer sheet_call(uint64_t want, enum call call, struct sheet
         memcpy(s->claim, in_out.bytes, digest_bytes[s->code]);
     }
     return got;
+}
+
+void plan_call(struct luffa_content_answer want, const uint8_t *sheet, size_t sheet_len, size_t n)
+{
+    static struct lent l;
+    uint8_t *lent = lend(&l, sheet, sheet_len);
+
+    struct luffa_content_answer got = luffa_plan_check(lent, sheet_len, n);
+    check(got.number == want.number && got.rule == want.rule && got.place == want.place,
+          "check of %zu records in %zu bytes: answered %llu, rule %llu at %llu, wanted %llu, rule %llu at %llu", n,
+          sheet_len, (unsigned long long)got.number, (unsigned long long)got.rule, (unsigned long long)got.place,
+          (unsigned long long)want.number, (unsigned long long)want.rule, (unsigned long long)want.place);
+    check(kept(&l, 0), "check of %zu records in %zu bytes: wrote to the sheet", n, sheet_len);
 }

@@ -9,6 +9,8 @@
 #include <stdlib.h>
 #include <string.h>
 
+#define COUNT_OF(array) (sizeof(array) / sizeof *(array))
+
 /* Ends the program with status 1 and the words given, unless the condition holds. */
 void check(int holds, const char *words, ...) __attribute__((format(printf, 2, 3)));
 
@@ -56,6 +58,10 @@ extern const char *const call_names[4];
 
 enum { RECORD = LUFFA_SHEET_RECORD_BYTES, MARK = LUFFA_MARK_WORDS, MOST = LUFFA_SHEET_MOST, ROOM_FOR = MOST + 6 };
 
+/* Numbers of records that no sheet has, among them such as are few once they are cut to 32 bits, and
+   such as need few bytes or words once the product is cut to 64. */
+extern const size_t too_many[15];
+
 /* A sheet, and all that a call on it is given. */
 struct sheet {
     size_t code, n, place;
@@ -80,5 +86,8 @@ extern const size_t final_rounds[5];
    have changed. Then `s` is what the call left, with the new count, and the claim is the new
    digest. */
 struct luffa_sheet_answer sheet_call(uint64_t want, enum call call, struct sheet *s);
+
+/* The check of what the first n records mean, which writes nothing. */
+void plan_call(struct luffa_content_answer want, const uint8_t *sheet, size_t sheet_len, size_t n);
 
 #endif
