@@ -113,13 +113,13 @@ fn random_saves() {
             assert!(sheet.records() == plain.records, "{name}, save {k}");
             assert_eq!(sheet.digest(), plain.digest(), "{name}, save {k}");
             if k % 10 == 0 {
-                sheet.check();
+                sheet.holds();
                 old = claim;
             }
             let number = got.map_or_else(|refused| refused.number(), |_| 0);
             *met.entry((name, number)).or_insert(0) += 1;
         }
-        sheet.check();
+        sheet.holds();
     }
     // Each save has been taken and refused in each way that it can be.
     let all = [("append", 8), ("change", 7), ("drop", 7)]

@@ -7,7 +7,7 @@ use crate::{Code, Digest, Error, ffi};
 impl Sheet {
     /// What must hold after every call: the digest is that of the bytes, hashed afresh, the marks are
     /// those that a build writes, and there is no more room than a sheet may take.
-    pub(super) fn check(&self) {
+    pub(super) fn holds(&self) {
         let (n, code) = (self.n, self.code);
         assert_eq!(self.digest, Digest::of(code, self.bytes()), "{n} records");
         let (mut marks, mut out) = (vec![0; marks_for(n)], [0; 64]);
@@ -22,7 +22,7 @@ fn sheet(code: Code, n: usize) -> Sheet {
     let records = Numbers(n as u64).records(n);
     let sheet = Sheet::from_records(code, &records).unwrap();
     assert_eq!(sheet.records(), records);
-    sheet.check();
+    sheet.holds();
     sheet
 }
 
@@ -38,14 +38,14 @@ fn rounds_of_document_01() {
         let mut sheet = sheet(code, n);
         let saved = sheet.change(place, &new, &sheet.digest()).unwrap();
         assert_eq!(saved.rounds, rounds, "change at {place} of {n}");
-        sheet.check();
+        sheet.holds();
     }
     let mut sheet = sheet(Code::Luffa256, 3);
     let saved = sheet.append(&new, &sheet.digest()).unwrap();
     assert_eq!(saved.rounds, 12);
     let saved = sheet.drop_last(&saved.digest).unwrap();
     assert_eq!(saved.rounds, 7);
-    sheet.check();
+    sheet.holds();
 }
 
 #[test]
@@ -56,7 +56,7 @@ fn made_from_bytes() {
         assert_eq!((sheet.bytes(), sheet.len()), (&bytes[..n], n / 40));
         assert_eq!(sheet.is_empty(), n == 0);
         assert_eq!(sheet.record(n / 40), None);
-        sheet.check();
+        sheet.holds();
     }
     for n in [1, 39, 41, 40 * 1024 - 1, 40 * 1024 + 1, 40 * 1024 + 40] {
         let refused = Sheet::from_bytes(Code::Luffa384, &bytes[..n]);
@@ -79,10 +79,10 @@ fn every_place() {
                 assert_eq!(saved.digest, sheet.digest());
                 assert_ne!(saved.digest, opened);
                 assert_eq!(sheet.record(place), Some(&new));
-                sheet.check();
+                sheet.holds();
                 let back = sheet.change(place, &old, &saved.digest).unwrap();
                 assert_eq!(back.digest, opened);
-                sheet.check();
+                sheet.holds();
             }
             // A record equal to the old one is taken too.
             if n > 0 {
@@ -91,7 +91,7 @@ fn every_place() {
             }
             assert_eq!(sheet.change(n, &[0; 40], &opened), Err(Error::Place));
             assert_eq!(sheet.len(), n);
-            sheet.check();
+            sheet.holds();
         }
     }
 }
@@ -108,11 +108,11 @@ fn filled_and_emptied() {
             assert_eq!(sheet.len(), n + 1);
             digests.push(saved.digest);
             if n % 16 < 5 {
-                sheet.check();
+                sheet.holds();
             }
         }
         assert_eq!(sheet.append(&[0; 40], &digests[1024]), Err(Error::Full));
-        sheet.check();
+        sheet.holds();
         while let Some(claim) = digests.pop() {
             assert_eq!(sheet.digest(), claim);
             match digests.last() {
@@ -121,7 +121,7 @@ fn filled_and_emptied() {
             }
         }
         assert!(sheet.is_empty());
-        sheet.check();
+        sheet.holds();
     }
 }
 
@@ -144,14 +144,14 @@ fn two_planners() {
         assert_eq!(sheet.drop_last(&ben), stale);
         assert_eq!(sheet, before);
         assert_eq!(sheet.digest(), anna);
-        sheet.check();
+        sheet.holds();
         // Anna changes it back: Ben's digest is that of the sheet again.
         sheet.change(7, &old, &anna).unwrap();
         assert_eq!(sheet.digest(), ben);
         let ben = sheet.change(2, &[2; 40], &ben).unwrap().digest;
         assert_eq!(sheet.digest(), ben);
         assert_ne!(sheet, before);
-        sheet.check();
+        sheet.holds();
     }
 }
 
@@ -185,6 +185,6 @@ fn goes_between_threads() {
     let claim = sheet.digest();
     let save = move || sheet.change(3, &[3; 40], &claim).map(|_| sheet);
     let sheet = std::thread::spawn(save).join().unwrap().unwrap();
-    sheet.check();
+    sheet.holds();
     may_go(crate::Luffa512::new());
 }
