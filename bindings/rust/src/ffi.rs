@@ -17,6 +17,14 @@ pub struct Answer {
     pub rounds: u64,
 }
 
+/// struct luffa_content_answer.
+#[repr(C)]
+pub struct ContentAnswer {
+    pub number: u64,
+    pub rule: u64,
+    pub place: u64,
+}
+
 // SAFETY: these are luffa.h's declarations, with size_t as usize.
 #[link(name = "luffa", kind = "static")]
 unsafe extern "C" {
@@ -81,6 +89,7 @@ unsafe extern "C" {
         out: *mut u8,
         out_len: usize,
     ) -> Answer;
+    fn luffa_plan_check(sheet: *const u8, sheet_len: usize, n: usize) -> ContentAnswer;
 }
 
 pub fn digest(code: usize, message: &[u8], out: &mut [u8]) -> Result<(), Error> {
@@ -209,4 +218,9 @@ pub fn drop_last(lent: &mut Lent, claim: &[u8], out: &mut [u8]) -> Answer {
             out.len(),
         )
     }
+}
+
+pub fn plan_check(sheet: &[u8], n: usize) -> ContentAnswer {
+    // SAFETY: `sheet` is read within its length, and is the one buffer lent.
+    unsafe { luffa_plan_check(sheet.as_ptr(), sheet.len(), n) }
 }

@@ -27,6 +27,9 @@
 //! # Ok::<(), Error>(())
 //! ```
 //!
+//! What the records mean to the balancer is in [`plan`]: a [`Well`](plan::Well) has the fields of a
+//! record, and [`Sheet::check`] says whether the wells of a sheet are sound.
+//!
 //! The library allocates nothing and keeps nothing, so every type here may go from thread to thread.
 //! Not claimed, as by the library: that two messages never share a digest, anything about time or
 //! secrecy. Digests are compared with `==`, which may stop at the first byte that differs.
@@ -39,6 +42,7 @@ mod digest;
 mod error;
 mod ffi;
 mod hash;
+pub mod plan;
 #[cfg(test)]
 mod random;
 mod sheet;

@@ -1,6 +1,7 @@
 //! A sheet of records that is saved under its digest.
 
 use crate::ffi::{self, Answer, Lent};
+use crate::plan::{self, Verdict};
 use crate::{Code, Digest, Error};
 use std::fmt;
 
@@ -12,6 +13,12 @@ mod tests;
 /// The words that the marks of n records need.
 const fn marks_for(n: usize) -> usize {
     40 * (n / 4 + 1)
+}
+
+/// The records in these bytes. One that isn't whole is counted, so that the library finds too few bytes
+/// for them all.
+pub(crate) fn records_in(bytes: &[u8]) -> usize {
+    bytes.len().div_ceil(Sheet::RECORD_BYTES)
 }
 
 /// Up to 1,024 records of 40 bytes, whose digest is that of these bytes.
@@ -114,8 +121,7 @@ impl Sheet {
     /// # Ok::<(), Error>(())
     /// ```
     pub fn from_bytes(code: Code, bytes: &[u8]) -> Result<Sheet, Error> {
-        // A record that isn't whole is counted, so that the library finds too few bytes for them all.
-        let n = bytes.len().div_ceil(Sheet::RECORD_BYTES);
+        let n = records_in(bytes);
         let mut marks = vec![0; marks_for(n.min(Sheet::MOST))];
         let (digest, answer) = Digest::written(code, |out| {
             ffi::build(code.number(), bytes, n, &mut marks, out)
@@ -202,6 +208,24 @@ impl Sheet {
     /// ```
     pub fn digest(&self) -> Digest {
         self.digest
+    }
+
+    /// Whether the records are sound wells, or the lowest faulty place and the first rule broken there.
+    /// A sheet of no records is sound. A save never asks, and saves any 40 bytes.
+    ///
+    /// ```
+    /// use luffa::plan::{Fault, Rule, Well};
+    /// use luffa::{Code, Sheet};
+    ///
+    /// let wells = [Well::injector(14).with_rate(600), Well::producer(3).with_rate(500)];
+    /// let sheet = Sheet::from_records(Code::Luffa256, &wells.map(|well| well.to_record()))?;
+    /// // The producer's links were forgotten.
+    /// let fault = Fault { place: 1, rule: Rule::LinkCount };
+    /// assert_eq!(sheet.check(), Err(fault));
+    /// # Ok::<(), luffa::Error>(())
+    /// ```
+    pub fn check(&self) -> Verdict {
+        plan::check(self.bytes()).expect("a sheet is at most 1,024 whole records")
     }
 
     /// Puts a record in the place of the one at `place`, counted from 0.
