@@ -5,7 +5,7 @@ pub const PRODUCER: u8 = 1;
 
 pub const INJECTOR: u8 = 2;
 
-pub const LINKS: usize = 4;
+pub const LINKS_MOST: u8 = 4;
 
 pub const RATE_MOST: u32 = 100000;
 

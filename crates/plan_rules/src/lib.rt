@@ -10,7 +10,7 @@ ghost use Rattle.plan_definition.specs.Rules.{breaksKind, breaksLinkCount, misn
 ghost use Rattle.plan_numbers.specs.Numbers.{has};
 ghost use Rattle.plan_rules.specs.Parts.{shapeRules, misshared};
 use plan_definition::INJECTOR;
-use plan_definition::LINKS;
+use plan_definition::LINKS_MOST;
 use plan_definition::Link;
 use plan_definition::PRODUCER;
 use plan_definition::RATE_MOST;
@@ -28,7 +28,7 @@ pub const LINK_COUNT: u64 = 3;
 
 pub const RATE: u64 = 4;
 
-pub const NAMED: u64 = 5;
+pub const LINKS: u64 = 5;
 
 pub const SHARES: u64 = 6;
 
@@ -56,7 +56,7 @@ fn count_breaks(w: Well) -> bool
     if w.kind != PRODUCER {
         return false;
     }
-    if 4 < count {
+    if LINKS_MOST < count {
         return true;
     }
     if count == 0 {
@@ -131,13 +131,14 @@ fn shares_break(links: [Link; 4], count: usize) -> bool
     let mut k = 0;
     while k < count {
         let l = links[k];
-        if l.share == 0 {
+        let share = l.share as u64;
+        if share == 0 {
             return true;
         }
-        if 1000 < l.share {
+        if SHARES_TOTAL < share {
             return true;
         }
-        sum += l.share as u64;
+        sum += share;
         k += 1;
     }
     sum != SHARES_TOTAL
@@ -149,7 +150,7 @@ fn unused_breaks(links: [Link; 4], count: usize) -> bool
     ensures { λ r. ⌜ r ≡ some notZero (drop count links) ⌝ }
 {
     let mut k = count;
-    while k < LINKS {
+    while k < 4 {
         let l = links[k];
         if l.injector != 0 {
             return true;
@@ -172,10 +173,12 @@ pub fn broken(w: Well, injectors: &[u64; 1024], seen: &[u64; 1024]) -> u64
     }
     let links = w.links;
     let count = w.count as usize;
-    if links_break(links, count, injectors) {
-        return NAMED;
+    let misnamed = links_break(links, count, injectors);
+    let misshared = shares_break(links, count);
+    if misnamed {
+        return LINKS;
     }
-    if shares_break(links, count) {
+    if misshared {
         return SHARES;
     }
     if unused_breaks(links, count) {

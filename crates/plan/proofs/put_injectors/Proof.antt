@@ -56,8 +56,8 @@ loop-again c =
     let t = d .before .before .loop .t in (
       omega arith,
       λ k. rw (add-one i) (elim (c .if1 .came) [
-        | inl s ↦ with-injector w ws t k (c .if1 .t) (eq-eqb (w .kind) 2 (s .0 .taken)) (rw (s .3) (s .2 .ensures)) ∙ step d k
-        | inr s ↦ rw (s .1) (with-other w ws t k (ne-eqb (w .kind) 2 (s .0 .left)) ∙ step d k)
+        | inl s ↦ with-injector w ws t k (c .if1 .t) (eq-eqb (w .kind) 2 (omega (arith, s .0 .taken))) (rw (s .3) (s .2 .ensures)) ∙ step d k
+        | inr s ↦ rw (s .1) (with-other w ws t k (ne-eqb (w .kind) 2 (λ e. omega (arith, s .0 .left))) ∙ step d k)
       ]),
     )
 

@@ -24,49 +24,57 @@ after : (c : tie.Else1) → let a = c .before .before .args in
     firstOf (rulesBy (has (now (a .injectors))) (has (now (a .seen))) (a .w)) ≡ firstOf (linkRules (has (now (a .injectors))) (has (now (a .seen))) (a .w))
 after c = after-shape _ _ _ (c .before .shaped .ensures) (c .if1 .left)
 
--- the rules before a test hold where it is made
-links : (c : tie.Else2) → let a = c .before .before .before .before .before .before .args in
-    breaksLinks (has (now (a .injectors))) (a .w) ≡ false
+-- where they are asked, and the places of the tests after them
+abbrev shaped : tie.After-shares-break → tie.Else1
+shaped c = c .before .before .before .before
+
+abbrev start : tie.After-shares-break → tie.Start
+start c = shaped c .before .before
+
+-- what is tested
+links : (c : tie.After-shares-break) → c .before .links-break .result ≡ breaksLinks (has (now (start c .args .injectors))) (start c .args .w)
 unfolding breaksLinks used
-links c = sym (c .before .links-break .ensures) ∙ c .if2 .left
+links c = c .before .links-break .ensures
 
-shares : (c : tie.Else3) → breaksShares (c .before .before .before .before .before .before .before .before .args .w) ≡ false
+shares : (c : tie.After-shares-break) → c .shares-break .result ≡ breaksShares (start c .args .w)
 unfolding breaksShares used misshared
-shares c = sym (c .before .shares-break .ensures) ∙ c .if3 .left
+shares c = c .shares-break .ensures
 
--- the links that aren't used are those from the link count on, of an injector too
-unused-links : (c : tie.After-unused-breaks) → let s = c .before .before .before .before .before .before .before .before .before in
-    c .unused-breaks .result ≡ breaksUnusedLinks (s .args .w)
+-- of an injector too the links that aren't used are those from the link count on
+unused-links : (c : tie.After-unused-breaks) → c .unused-breaks .result ≡ breaksUnusedLinks (start (c .before .before .before) .args .w)
 unfolding breaksUnusedLinks unused
-unused-links c =
-    rw (few-links _ (shape (c .before .before .before .before .before .before .before)) .1) (c .unused-breaks .ensures)
+unused-links c = rw (few-links _ (shape (shaped (c .before .before .before))) .1) (c .unused-breaks .ensures)
 
 returns-2 : tie.Need-returns-2
-unfolding firstOf pick linkRules breaksLinks used
-returns-2 c = rw (after (c .before .before .before .before), sym (c .before .links-break .ensures) ∙ c .if2 .taken)
+unfolding firstOf pick linkRules
+returns-2 c = rw (after (shaped (c .before)), sym (links (c .before)) ∙ c .if2 .taken)
 
 returns-3 : tie.Need-returns-3
-unfolding firstOf pick linkRules breaksShares used misshared
+unfolding firstOf pick linkRules
 returns-3 c =
-    let l = c .before .before in
-    rw (after (l .before .before .before .before), links l, sym (c .before .shares-break .ensures) ∙ c .if3 .taken)
+    let s = c .before .before in
+    rw (after (shaped s), sym (links s) ∙ c .before .if2 .left, sym (shares s) ∙ c .if3 .taken)
+
+-- the first two hold: the last two decide
+unbroken : (c : tie.Else3) → let a = start (c .before .before) .args in
+    firstOf (rulesBy (has (now (a .injectors))) (has (now (a .seen))) (a .w))
+    ≡ pick (breaksUnusedLinks (a .w)) 7 (pick (has (now (a .seen)) (a .w .number)) 8 0)
+unfolding firstOf pick linkRules breaksRepeat
+unbroken c =
+    let s = c .before .before in
+    rw (after (shaped s), sym (links s) ∙ c .before .if2 .left, sym (shares s) ∙ c .if3 .left)
 
 returns-4 : tie.Need-returns-4
-unfolding firstOf pick linkRules
-returns-4 c =
-    let s = c .before .before in
-    let l = s .before .before in
-    rw (after (l .before .before .before .before), links l, shares s, sym (unused-links (c .before)) ∙ c .if4 .taken)
+unfolding pick
+returns-4 c = sym (unbroken (c .before .before) ∙ rw (sym (unused-links (c .before)) ∙ c .if4 .taken))
 
--- all but the last hold
-last : (c : tie.After-has) → let a = c .before .before .before .before .before .before .before .before .before .before .before .args in
+-- the third too
+last : (c : tie.After-has) → let a = start (c .before .before .before .before .before) .args in
     firstOf (rulesBy (has (now (a .injectors))) (has (now (a .seen))) (a .w)) ≡ pick (c .has .result) 8 0
-unfolding firstOf pick linkRules breaksRepeat
+unfolding pick
 last c =
     let u = c .before in
-    let s = u .before .before in
-    let l = s .before .before in
-    rw (after (l .before .before .before .before), links l, shares s, sym (unused-links (u .before)) ∙ u .if4 .left, c .has .ensures)
+    unbroken (u .before .before) ∙ rw (sym (unused-links (u .before)) ∙ u .if4 .left, c .has .ensures)
 
 returns-5 : tie.Need-returns-5
 unfolding pick
@@ -79,6 +87,6 @@ returns-6 c = sym (rw (c .if5 .left) at (last (c .before)))
 pub broken-spec : {M : Type 1} → statement M
 broken-spec =
     tie.close
-    (tie.spec (λ c κs. tt) returns (λ c. search needs) (λ c κs. few-links _ (shape (c .before .before)) .0) returns-2
-    (λ c κs. few-links _ (shape (c .before .before .before .before)) .0) returns-3
-    (λ c κs. few-links _ (shape (c .before .before .before .before .before .before)) .0) returns-4 (λ c κs. tt) returns-5 returns-6)
+    (tie.spec (λ c κs. tt) returns (λ c. search needs) (λ c κs. few-links _ (shape (c .before .before)) .0)
+    (λ c κs. few-links _ (shape (c .before .before .before)) .0) returns-2 returns-3
+    (λ c κs. few-links _ (shape (shaped (c .before .before))) .0) returns-4 (λ c κs. tt) returns-5 returns-6)

@@ -67,12 +67,12 @@ returns-2 c =
 
 returns-3 : tie.Need-returns-3 Inv-loop μ-loop
 returns-3 c =
-    let d = c .before .before .before .before .before in
+    let d = c .before .before .before .before in
     rw (sym (rw (le-leb 1 (share d) (omega arith), lt-leb (share d) 1000 (omega arith)) at (left d))) at (shares (d .before .before))
 
 loop-again : tie.Need-loop-again Inv-loop μ-loop
 loop-again c =
-    let d = c .before .before .before .before .before .before in
+    let d = c .before .before .before .before in
     let a = d .before .before .before .args in
     let l = d .before .loop in (
       omega arith,
@@ -94,5 +94,5 @@ returns-4 c =
 pub shares-break-spec : {M : Type 1} → statement M
 shares-break-spec =
     tie.close
-    (tie.spec Inv-loop μ-loop returns loop-holds (λ c. search needs) (λ c. omega arith) returns-2 returns-3 (λ c. omega arith) (λ c. omega arith) (λ c. omega arith) (λ c. omega arith)
-    loop-again returns-4)
+    (tie.spec Inv-loop μ-loop returns loop-holds (λ c. search needs) (λ c. omega arith) (λ c. search needs) returns-2 returns-3
+    (λ c. omega arith) (λ c. omega arith) (λ c. omega arith) loop-again returns-4)
