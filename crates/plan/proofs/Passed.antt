@@ -1,6 +1,6 @@
 -- What the check's sets hold place by place, and the rules by them.
 -- Assumes nothing.
-use mathlib.Core.Path.{_≡_, refl, fun-ext}
+use mathlib.Core.Path.{_≡_, refl, ap, fun-ext}
 use mathlib.Core.Bool.{Bool, true, false, _||_}
 use mathlib.Core.List.{List, _∷_}
 use Prim.Native.Nat.{ℕ}
@@ -9,7 +9,7 @@ use Rattle.definition.specs.Refusal.{firstOf}
 use Rattle.plan_definition.specs.declared.Well.{Well}
 use Rattle.plan_definition.specs.Some.{some}
 use Rattle.plan_definition.specs.Rules.{injector, isInjectorOf, isBefore, rulesBy, rulesAt}
-use Rattle.plan_numbers.specs.Numbers.{has, Adds}
+use Rattle.plan_numbers.specs.Numbers.{has, plus}
 
 -- two numbers are put in either order
 either-first : (a b c : Bool) → (b || (a || c)) ≡ (a || b || c)
@@ -19,10 +19,10 @@ either-first false b c = refl
 
 module _ (w : Well) (ws : List Well) (t : List ℕ) (k : ℕ) where
   -- an injector is put into the set
-  pub with-injector : (t' : List ℕ) → injector w ≡ true → Adds (w .number) t t'
+  pub with-injector : (t' : List ℕ) → injector w ≡ true → has t' ≡ plus (w .number) (has t)
       → (isInjectorOf ws k || has t' k) ≡ (isInjectorOf (w ∷ ws) k || has t k)
-  unfolding isInjectorOf some Adds
-  with-injector t' e h = rw (h k, e) (either-first (eqb (w .number) k) (isInjectorOf ws k) (has t k))
+  unfolding isInjectorOf some plus
+  with-injector t' e h = rw (ap (λ (f : ℕ → Bool). f k) h, e) (either-first (eqb (w .number) k) (isInjectorOf ws k) (has t k))
 
   -- another well isn't
   pub with-other : injector w ≡ false → (isInjectorOf ws k || has t k) ≡ (isInjectorOf (w ∷ ws) k || has t k)

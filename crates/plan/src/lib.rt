@@ -7,7 +7,7 @@ ghost use Rattle.plan_definition.specs.Well.{wells};
 ghost use Rattle.plan_definition.specs.Rules.{isInjectorOf, ruleNumber};
 ghost use Rattle.plan_definition.specs.Check.{ruleOf, firstFault, verdict, answerOf};
 ghost use Rattle.plan_numbers.specs.Numbers.{has};
-ghost use Rattle.plan.specs.Sets.{AddsInjectors};
+ghost use Rattle.plan.specs.Sets.{plusInjectors};
 use plan_definition::ContentAnswer;
 use plan_definition::INJECTOR;
 use plan_definition::Rule;
@@ -16,7 +16,7 @@ use plan_definition::Verdict;
 // The numbers of the sheet's injectors put into a set.
 fn put_injectors(sheet: &[u8], n: usize, t: &mut [u64; 1024])
     requires { ⌜ 40 * n ≤ length (now sheet) ⌝ }
-    ensures { λ _. ⌜ AddsInjectors (wells n (now (sheet .entry))) (now (t .entry)) (now (t .exit)) ⌝ }
+    ensures { λ _. ⌜ has (now (t .exit)) ≡ plusInjectors (wells n (now (sheet .entry))) (has (now (t .entry))) ⌝ }
 {
     let mut i = 0;
     while i < n {

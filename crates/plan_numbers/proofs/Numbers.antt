@@ -16,7 +16,7 @@ use lib.Seq.{getD-set-same, getD-set-other}
 use Rattle.definition.specs.Word.{bit}
 use Rattle.definition.proofs.Bits.{bit-lt, bit-or, bit-zero}
 use Rattle.definition.proofs.Cases.{at-below}
-use Rattle.plan_numbers.specs.Numbers.{has, Adds}
+use Rattle.plan_numbers.specs.Numbers.{has, plus}
 
 -- of a word that is one bit, that bit is one and every other zero
 one-same : (s : ℕ) → bit s (1 * 2 ^ s) ≡ 1
@@ -36,9 +36,9 @@ one-other l s h =
 or-one : (b : ℕ) → b < 2 → bitOr b 1 ≡ 1
 or-one b h = eqb→eq (bitOr b 1) 1 (at-below 2 (λ b. eqb (bitOr b 1) 1) tt b h)
 
-pub set-adds : (k : ℕ) (t : List ℕ) → k / 64 < length t
-    → Adds k t (set t (k / 64) (bitOr (getD t (k / 64) 0) (1 * 2 ^ (k % 64) % 2 ^ 64)))
-unfolding Adds has
+pub set-adds : (k : ℕ) (t : List ℕ) → k / 64 < length t → (j : ℕ)
+    → has (set t (k / 64) (bitOr (getD t (k / 64) 0) (1 * 2 ^ (k % 64) % 2 ^ 64))) j ≡ plus k (has t) j
+unfolding has plus
 set-adds k t h j =
     let m : k % 64 < 64 = mod-lt k (zero-lt-suc 63) in
     let one : 1 * 2 ^ (k % 64) % 2 ^ 64 ≡ 1 * 2 ^ (k % 64) = shl-exact 1 (k % 64) 64 (lit< tt) (omega arith) in

@@ -1,7 +1,7 @@
 // A set of well numbers: a bit for each of the 65,536, which is 8 KiB (document 02, Q-1). With it a check asks once for each record whether a
 // number was met, however many records there are.
 ghost use mathlib.Core.Path.{_≡_};
-ghost use Rattle.plan_numbers.specs.Numbers.{has as hasNumber, Adds};
+ghost use Rattle.plan_numbers.specs.Numbers.{has as hasNumber, plus};
 
 // Whether a number is in the set. The bits stand 64 to a word.
 pub fn has(t: &[u64; 1024], k: u16) -> bool
@@ -13,7 +13,7 @@ pub fn has(t: &[u64; 1024], k: u16) -> bool
 
 // The set with a number more.
 pub fn put(t: &mut [u64; 1024], k: u16)
-    ensures { λ _. ⌜ Adds k (now (t .entry)) (now (t .exit)) ⌝ }
+    ensures { λ _. ⌜ hasNumber (now (t .exit)) ≡ plus k (hasNumber (now (t .entry))) ⌝ }
 {
     let i = k as usize;
     // Lent as a slice, so that its length is known.

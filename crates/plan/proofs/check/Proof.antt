@@ -12,7 +12,7 @@ use Rattle.plan_definition.specs.Check.{checkRefusals, verdict}
 use Rattle.plan_definition.proofs.Verdicts.{room}
 use Rattle.plan_numbers.specs.Numbers.{has}
 use Rattle.plan_numbers.proofs.Numbers.{none-has}
-use Rattle.plan.specs.Sets.{AddsInjectors}
+use Rattle.plan.specs.Sets.{plusInjectors}
 use Rattle.plan.proofs.check.Statement.{statement}
 use Rattle.plan.proofs.check.Tie as tie
 
@@ -38,8 +38,8 @@ fits c = room _ _ .0 (sym (number (c .before)) ∙ c .if1 .left) .1
 -- an empty set with the sheet's injectors has these alone
 injectors : (c : tie.After-put-injectors) → let a = c .before .before .before .before .before .args in
     has (c .put-injectors .last .1 .1 .0) ≡ isInjectorOf (wells (a .n) (now (a .sheet)))
-unfolding AddsInjectors
-injectors c = fun-ext (λ k. c .put-injectors .ensures k ∙ rw (none-has 1024 k) (or-false _))
+unfolding plusInjectors
+injectors c = c .put-injectors .ensures ∙ fun-ext (λ k. rw (none-has 1024 k) (or-false _))
 
 returns-2 : tie.Need-returns-2
 unfolding verdict whenDone

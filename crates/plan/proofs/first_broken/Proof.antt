@@ -1,7 +1,7 @@
 -- `plan::first_broken` meets its contract. The loop's invariant: what is left decides, and the set has the numbers of the places passed.
 -- Assumes nothing.
 use mathlib.Core.Path.{_≡_, sym, ap, _∙_}
-use mathlib.Core.Bool.{_||_}
+use mathlib.Core.Bool.{Bool, _||_}
 use Prim.Native.Nat.{ℕ, suc, _-_, _≤_}
 use native.Mathlib.Numerals.{add-one}
 use native.Mathlib.Omega.{arith}
@@ -13,7 +13,7 @@ use Rattle.plan_definition.specs.Rules.{isBefore, rulesAt}
 use Rattle.plan_definition.specs.Check.{foundAt, firstFault}
 use Rattle.plan_definition.proofs.Places.{wellAt, left, left-all, left-step, left-none, before-none, before-step}
 use Rattle.plan_definition.proofs.Faults.{found}
-use Rattle.plan_numbers.specs.Numbers.{has, Adds}
+use Rattle.plan_numbers.specs.Numbers.{has, plus}
 use Rattle.plan_numbers.proofs.Numbers.{none-has}
 use Rattle.plan_record.proofs.Total.{well-read}
 use Rattle.plan.proofs.Passed.{by-sets}
@@ -66,13 +66,13 @@ returns c =
     rw (c .rule-of .ensures) (sym (found (b .broken .result) _ _ (omega arith)) ∙ step b)
 
 loop-again : tie.Need-loop-again Inv-loop μ-loop
-unfolding Adds foundAt
+unfolding plus foundAt
 loop-again c =
     let b = c .before .before .before in
     let l = b .before .before .before .before .loop in
     let a = b .before .before .before .before .before .before .args in (
       omega arith,
-      λ k. rw (add-one (l .i)) (c .put .ensures k ∙ (λ j. eqb (read (b .before .before) j .number) k || l .inv .1 k j)
+      λ k. rw (add-one (l .i)) (ap (λ (f : ℕ → Bool). f k) (c .put .ensures) ∙ (λ j. eqb (read (b .before .before) j .number) k || l .inv .1 k j)
           ∙ sym (before-step (a .n) (now (a .sheet)) (l .i) k (omega arith))),
       rw (add-one (l .i)) (rw (c .before .before .if1 .left) at (step b)),
     )

@@ -1,6 +1,6 @@
 -- `plan::put_injectors` meets its contract. The loop's invariant: the injectors of what is left and those in the set are all.
 -- Assumes nothing.
-use mathlib.Core.Path.{_≡_, _∙_}
+use mathlib.Core.Path.{_≡_, _∙_, fun-ext}
 use mathlib.Core.Logic._⊎_.{inl, inr}
 use mathlib.Core.Bool.{_||_}
 use mathlib.Core.List.{_∷_}
@@ -15,7 +15,7 @@ use Rattle.plan_definition.specs.Well.{wells}
 use Rattle.plan_definition.proofs.Places.{wellAt, left, left-all, left-step, left-none}
 use Rattle.plan_numbers.specs.Numbers.{has}
 use Rattle.plan_record.proofs.Total.{well-read}
-use Rattle.plan.specs.Sets.{AddsInjectors}
+use Rattle.plan.specs.Sets.{plusInjectors}
 use Rattle.plan.proofs.Passed.{with-injector, with-other}
 use Rattle.plan.proofs.put_injectors.Statement.{statement}
 use Rattle.plan.proofs.put_injectors.Tie as tie
@@ -62,12 +62,12 @@ loop-again c =
     )
 
 returns : tie.Need-returns Inv-loop μ-loop
-unfolding AddsInjectors isInjectorOf some
-returns c k =
+unfolding plusInjectors isInjectorOf some
+returns c =
     let l = c .before .loop in
     let a = c .before .before .before .args in
     let e : l .i ≡ a .n = omega arith in
-    rw (left-none (a .n) (now (a .sheet))) at (rw e at (l .inv .1 k))
+    fun-ext (λ k. rw (left-none (a .n) (now (a .sheet))) at (rw e at (l .inv .1 k)))
 
 pub put-injectors-spec : {M : Type 1} → statement M
 put-injectors-spec =

@@ -1,5 +1,6 @@
 -- `plan_numbers::put` meets its contract: the number's bit is one in the word that is written.
 -- Assumes nothing.
+use mathlib.Core.Path.{fun-ext}
 use denote.Ref.{now}
 use borrow.Author.Needs.{needs}
 use Rattle.plan_numbers.proofs.Numbers.{set-adds}
@@ -9,7 +10,7 @@ use Rattle.plan_numbers.proofs.put.Tie as tie
 returns : tie.Need-returns
 returns c =
     let a = c .before .before .args in
-    set-adds (a .k) (now (a .t)) (search needs)
+    fun-ext (set-adds (a .k) (now (a .t)) (search needs))
 
 pub put-spec : {M : Type 1} → statement M
 put-spec =
