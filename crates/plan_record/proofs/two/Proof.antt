@@ -24,12 +24,5 @@ returns c = refl
 pub two-spec : {M : Type 1} → statement M
 two-spec =
     tie.close
-    (tie.spec
-    (λ c. search needs)
-    (λ c. omega (arith, high c))
-    (λ c. search needs)
-    (λ c. search needs)
-    (λ c. omega (arith, low c))
-    (λ c. omega (arith, high (c .before), low c))
-    (λ c. omega (arith, high (c .before), low c))
-    returns)
+    (tie.spec (λ c. search needs) (λ c. omega (arith, high c)) (λ c. search needs) (λ c. search needs) (λ c. omega (arith, low c))
+    (λ c. omega (arith, high (c .before), low c)) (λ c. omega (arith, high (c .before), low c)) returns)

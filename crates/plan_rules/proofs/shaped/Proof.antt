@@ -4,7 +4,9 @@ use mathlib.Core.Path.{_≡_, sym, _∙_}
 use mathlib.Core.Bool.{false}
 use native.Mathlib.Omega.{arith}
 use borrow.Author.Tests.{eq-eqb, ne-eqb, lt-ltb, le-ltb}
+use lib.Dec.{ltb}
 use Rattle.definition.specs.Refusal.{pick, firstOf}
+use Rattle.plan_definition.specs.declared.Well.{Well}
 use Rattle.plan_definition.specs.Rules.{breaksNumber, breaksKind, breaksLinkCount, breaksRate}
 use Rattle.plan_rules.specs.Parts.{shapeRules}
 use Rattle.plan_rules.proofs.shaped.Statement.{statement}
@@ -35,19 +37,24 @@ returns-3 c =
     let k = c .before .before in
     rw (number (k .before .before), kind k, sym (c .before .count-breaks .ensures) ∙ c .if3 .taken)
 
-returns-4 : tie.Need-returns-4
+-- the rate alone is left
+abbrev well : tie.After-struct-known2 → Well
+well c = c .before .before .before .before .before .before .before .args .w
+
+rate : (c : tie.After-struct-known2) → firstOf (shapeRules (well c)) ≡ pick (ltb 100000 (well c .rate)) 4 0
 unfolding firstOf pick shapeRules breaksRate
-returns-4 c =
-    let l = c .before .before in
+rate c =
+    let l = c .before in
     let k = l .before .before in
-    rw (number (k .before .before), kind k, link-count l, lt-ltb 100000 (k .before .before .before .before .args .w .rate) (omega arith))
+    rw (number (k .before .before), kind k, link-count l)
+
+returns-4 : tie.Need-returns-4
+unfolding pick
+returns-4 c = sym (rate (c .before) ∙ rw (lt-ltb 100000 (well (c .before) .rate) (omega arith)))
 
 returns-5 : tie.Need-returns-5
-unfolding firstOf pick shapeRules breaksRate
-returns-5 c =
-    let l = c .before .before in
-    let k = l .before .before in
-    rw (number (k .before .before), kind k, link-count l, le-ltb 100000 (k .before .before .before .before .args .w .rate) (omega arith))
+unfolding pick
+returns-5 c = sym (rate (c .before) ∙ rw (le-ltb 100000 (well (c .before) .rate) (omega arith)))
 
 pub shaped-spec : {M : Type 1} → statement M
 shaped-spec = tie.close (tie.spec returns (λ c κs. tt) returns-2 (λ c κs. tt) returns-3 returns-4 returns-5)
