@@ -81,14 +81,14 @@ fn rule_number(rule: Rule) -> u64
     ensures { λ r. ⌜ r ≡ ruleNumber rule ⌝ }
 {
     match rule {
-        Rule::Number => 1,
-        Rule::Kind => 2,
-        Rule::LinkCount => 3,
-        Rule::Rate => 4,
-        Rule::Links => 5,
-        Rule::Shares => 6,
-        Rule::UnusedLinks => 7,
-        Rule::Repeat => 8,
+        Rule::Number => plan_rules::NUMBER,
+        Rule::Kind => plan_rules::KIND,
+        Rule::LinkCount => plan_rules::LINK_COUNT,
+        Rule::Rate => plan_rules::RATE,
+        Rule::Links => plan_rules::LINKS,
+        Rule::Shares => plan_rules::SHARES,
+        Rule::UnusedLinks => plan_rules::UNUSED_LINKS,
+        Rule::Repeat => plan_rules::REPEAT,
     }
 }
 
