@@ -154,7 +154,7 @@ impl fmt::Display for Rule {
             Rule::Number => "the well's number is 0",
             Rule::Kind => "the well is neither a producer, kind 1, nor an injector, kind 2",
             Rule::LinkCount => {
-                "a producer has 1 to 4 links, or none where its rate is 0; an injector has none"
+                "the link count isn't 1 to 4, or 0 for an injector and for a producer at rate 0"
             }
             Rule::Rate => "the rate is over 100,000 tonnes a day",
             Rule::Links => "the links don't name different injectors of this sheet",

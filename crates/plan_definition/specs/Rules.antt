@@ -32,7 +32,7 @@ breaksNumber w = eqb (w .number) 0
 unfoldable pub breaksKind : Well → Bool
 breaksKind w = not (producer w || injector w)
 
--- "A producer has 0 to 4 links, none exactly when its rate is 0. An injector has none."
+-- "A producer has 0 to 4 links, none exactly when its rate is 0 .. An injector has none."
 unfoldable pub differ : Bool → Bool → Bool
 differ true b = not b
 differ false b = b
@@ -57,7 +57,7 @@ misnamed isInjector (l ∷ ls) = not (isInjector (l .injector)) || some (namesSa
 unfoldable pub breaksLinks : (isInjector : ℕ → Bool) → Well → Bool
 breaksLinks isInjector w = misnamed isInjector (used w)
 
--- "the shares are 1 to 1000 and total 1000", where there are links
+-- "else the shares are 1 to 1000 and total 1000": where there are links
 unfoldable pub noShare : Link → Bool
 noShare l = not (leb 1 (l .share) && leb (l .share) 1000)
 

@@ -18,7 +18,7 @@ KeepsNumber w = w .number ≡ 0 → ⊥
 unfoldable pub KeepsKind : Well → Type 0
 KeepsKind w = (w .kind ≡ 1) ⊎ (w .kind ≡ 2)
 
--- "A producer has 0 to 4 links, none exactly when its rate is 0. An injector has none."
+-- "A producer has 0 to 4 links, none exactly when its rate is 0 .. An injector has none."
 unfoldable pub KeepsLinkCount : Well → Type 0
 KeepsLinkCount w = (w .kind ≡ 1 → (w .count ≤ 4) × ((w .count ≡ 0) ↔ (w .rate ≡ 0))) × (w .kind ≡ 2 → w .count ≡ 0)
 
@@ -36,7 +36,7 @@ KeepsLinks ws w =
     ((l : Link) → Among l (used w) → NamesInjector ws (l .injector))
     × ((i j : ℕ) → i < j → j < length (used w) → getD (used w) i noLink .injector ≡ getD (used w) j noLink .injector → ⊥)
 
--- "the shares are 1 to 1000 and total 1000", where there are links
+-- "else the shares are 1 to 1000 and total 1000": where there are links
 unfoldable pub KeepsShares : Well → Type 0
 KeepsShares w =
     (w .count ≡ 0 → ⊥)

@@ -13,7 +13,7 @@ two x i = 256 * getD x i 0 + getD x (i + 1) 0
 unfoldable pub four : List ℕ → (i : ℕ) → ℕ
 four x i = 65536 * two x i + two x (i + 2)
 
--- a link: "an injector number and a share in thousandths, two bytes each"
+-- "each an injector number and a share in thousandths, two bytes each"
 unfoldable pub linkAt : List ℕ → (i : ℕ) → Link
 linkAt x i = record { injector = two x i; share = two x (i + 2) }
 
@@ -21,7 +21,7 @@ linkAt x i = record { injector = two x i; share = two x (i + 2) }
 abbrev pub noLink : Link
 noLink = record { injector = 0; share = 0 }
 
--- "well number (bytes 0-1), kind (byte 2), link count (byte 3), rate in tonnes a day (4-7), four links (8-23)"
+-- "well number (bytes 0-1 ..), kind (byte 2 ..), link count (byte 3), rate in tonnes a day (4-7 ..), four links (8-23 ..)"
 unfoldable pub wellOf : (place : ℕ) → List ℕ → Well
 wellOf place x =
     record {
