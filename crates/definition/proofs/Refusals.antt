@@ -3,9 +3,9 @@
 use mathlib.Core.Path.{_≡_, refl}
 use mathlib.Core.Bool.{Bool, true, false}
 use mathlib.Core.List.{List, [], _∷_, _++_}
-use Prim.Native.Nat.{ℕ, suc, _<_}
+use Prim.Native.Nat.{ℕ, zero, suc, _<_}
 use native.Mathlib.Omega.{arith}
-use Rattle.definition.specs.Refusal.{Refusal, pick, firstOf}
+use Rattle.definition.specs.Refusal.{Refusal, pick, firstOf, whenDone}
 use Rattle.definition.proofs.Every.{Every}
 
 -- k is refused first: its condition holds, and none ranked before it
@@ -61,18 +61,15 @@ rest-given ss none e z = refl
 rest-given ss (more {b = true} h) e z = absurd (omega arith)
 rest-given ss (more {b = false} h) e z = rest-given ss h e z
 
--- no condition of a list holds exactly when each is false
-pub each-false : {rs : List Refusal} → NoneHolds rs → Every (λ r. r .1 ≡ false) rs
-each-false none = tt
-each-false (more h) = (refl, each-false h)
-
-pub none-true : (rs : List Refusal) → Every (λ r. r .1 ≡ false) rs → NoneHolds rs
-none-true [] h = none
-none-true ((n, b) ∷ rs) h = rw (h .0) (more (none-true rs (h .1)))
-
 -- of refusals in front of others that give 0 none holds
 pub none-of : (rs ss : List Refusal) → Every (λ r. 0 < r .0) rs → firstOf (rs ++ ss) ≡ 0 → Every (λ r. r .1 ≡ false) rs × (firstOf ss ≡ 0)
 unfolding firstOf pick
 none-of [] ss h e = (tt, e)
 none-of ((n, true) ∷ rs) ss h e = absurd (omega arith)
 none-of ((n, false) ∷ rs) ss h e = let i = none-of rs ss (h .1) e in ((refl, i .0), i .1)
+
+-- what a call that isn't done leaves
+pub not-done : {A : Type 0} (k : ℕ) (a b : A) → (k ≡ 0 → ⊥) → whenDone k a b ≡ b
+unfolding whenDone
+not-done zero a b h = absurd (h refl)
+not-done (suc k) a b h = refl

@@ -24,7 +24,7 @@ use Rattle.plan_definition.specs.Rules.{ruleNumber, rulesBy, rulesAt}
 use Rattle.plan_definition.specs.Sound.{Keeps}
 use Rattle.plan_definition.specs.Check.{ruleOf, foundAt, firstFault}
 use Rattle.plan_definition.proofs.Some.{none-among, among-cons}
-use Rattle.plan_definition.proofs.Kept.{keeps}
+use Rattle.plan_definition.proofs.Ranked.{keeps}
 
 -- a rule's number isn't 0, and the rule is had back from it
 pub rule-number : (r : Rule) → (0 < ruleNumber r) × (ruleOf (ruleNumber r) ≡ r)

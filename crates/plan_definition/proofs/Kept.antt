@@ -1,21 +1,18 @@
--- Each rule's test fails exactly where the rule's sentence holds, so a well breaks no rule exactly when it keeps them all.
+-- Each rule's test fails exactly where the rule's sentence holds.
 -- Assumes nothing.
 use mathlib.Core.Path.{_≡_, refl, sym}
 use mathlib.Core.Logic.{_↔_, Iff·trans}
-use mathlib.Core.Bool.{false}
 use mathlib.Core.List.{List, [], _∷_}
 use Prim.Native.Nat.{ℕ, zero, suc, _<_}
 use native.Mathlib.Omega.{arith}
 use lib.ListN.{length, getD}
-use Rattle.definition.proofs.Every.{Every}
-use Rattle.definition.proofs.Refusals.{NoneHolds, each-false, none-true}
 use Rattle.plan_definition.specs.declared.Link.{Link}
 use Rattle.plan_definition.specs.declared.Well.{Well}
 use Rattle.plan_definition.specs.Some.{Among}
 use Rattle.plan_definition.specs.Some.Among.{here, later}
 use Rattle.plan_definition.specs.Well.{noLink}
-use Rattle.plan_definition.specs.Rules.{producer, injector, used, unused, total, breaksNumber, breaksKind, breaksLinkCount, breaksRate, namesSame, misnamed, breaksLinks, noShare, breaksShares, notZero, breaksUnusedLinks, breaksRepeat, isInjectorOf, isBefore, rulesBy, rulesAt}
-use Rattle.plan_definition.specs.Sound.{KeepsNumber, KeepsKind, KeepsLinkCount, KeepsRate, NamesInjector, KeepsLinks, KeepsShares, KeepsUnusedLinks, KeepsRepeat, Keeps}
+use Rattle.plan_definition.specs.Rules.{producer, injector, used, unused, total, breaksNumber, breaksKind, breaksLinkCount, breaksRate, namesSame, misnamed, breaksLinks, noShare, breaksShares, notZero, breaksUnusedLinks, breaksRepeat, isInjectorOf, isBefore}
+use Rattle.plan_definition.specs.Sound.{KeepsNumber, KeepsKind, KeepsLinkCount, KeepsRate, NamesInjector, KeepsLinks, KeepsShares, KeepsUnusedLinks, KeepsRepeat}
 use Rattle.plan_definition.proofs.Some.{none-among, among-cons, at-index, index-of}
 use Rattle.plan_definition.proofs.Exactly.{Passes, Fails, less, not-less, at-most, equal, not-equal, not-passes, not-fails, either, neither, both, where-first, agree, one-passes, none-passes}
 
@@ -107,34 +104,3 @@ module _ (ws : List Well) where
   pub links-kept : (w : Well) → Fails (breaksLinks (isInjectorOf ws) w) (KeepsLinks ws w)
   unfolding breaksLinks KeepsLinks
   links-kept w = names (used w)
-
--- so a well breaks no rule exactly when it keeps each
-pub keeps : (ws : List Well) (w : Well) → NoneHolds (rulesAt ws w) ↔ Keeps ws w
-unfolding rulesAt rulesBy
-keeps ws w = (λ h. kept (each-false h), λ k. none-true (rulesAt ws w) (unbroken k))
-  where
-    kept : Every (λ r. r .1 ≡ false) (rulesAt ws w) → Keeps ws w
-    kept h =
-        search (
-          number-kept w .0,
-          kind-kept w .0,
-          link-count-kept w .0,
-          rate-kept w .0,
-          links-kept ws w .0,
-          shares-kept w .0,
-          unused-links-kept w .0,
-          repeat-kept ws w .0,
-        )
-
-    unbroken : Keeps ws w → Every (λ r. r .1 ≡ false) (rulesAt ws w)
-    unbroken k =
-        search (
-          number-kept w .1,
-          kind-kept w .1,
-          link-count-kept w .1,
-          rate-kept w .1,
-          links-kept ws w .1,
-          shares-kept w .1,
-          unused-links-kept w .1,
-          repeat-kept ws w .1,
-        )

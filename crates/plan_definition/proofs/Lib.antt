@@ -2,9 +2,9 @@
 pub mod Some
 pub mod Exactly
 pub mod Kept
+pub mod Ranked
 pub mod Places
 pub mod Faults
-pub mod Ranked
 pub mod Verdicts
 pub mod Elsewhere
 pub mod Determined

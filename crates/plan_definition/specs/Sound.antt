@@ -2,13 +2,14 @@
 use Prim.Native.Nat.{ℕ, _<_, _≤_}
 use mathlib.Core.Path.{_≡_}
 use mathlib.Core.Logic.{_↔_, _⊎_}
-use mathlib.Core.List.{List}
+use mathlib.Core.List.{List, [], _∷_}
 use lib.ListN.{length, getD}
 use Rattle.plan_definition.specs.declared.Link.{Link}
 use Rattle.plan_definition.specs.declared.Well.{Well}
 use Rattle.plan_definition.specs.Some.{Among}
 use Rattle.plan_definition.specs.Well.{noLink}
-use Rattle.plan_definition.specs.Rules.{used, unused, total}
+use Rattle.plan_definition.specs.declared.Rule.the-variants.{Number, Kind, LinkCount, Rate, Links, Shares, UnusedLinks, Repeat}
+use Rattle.plan_definition.specs.Rules.{used, unused, total, ruleNumber}
 
 -- "well number (bytes 0-1, not zero)"
 unfoldable pub KeepsNumber : Well → Type 0
@@ -64,3 +65,25 @@ pub record Keeps (ws : List Well) (w : Well) : Type 0 where
 -- a sound sheet: every well of it does
 unfoldable pub Sound : List Well → Type 0
 Sound ws = (w : Well) → Among w ws → Keeps ws w
+
+-- a sentence with its rule's number
+abbrev pub Sentence : Type 1
+Sentence = ℕ × Type 0
+
+-- the sentence of number k is the first that doesn't hold
+pub data FirstFalse (k : ℕ) : List Sentence → Type 1 where
+  broken : {A : Type 0} {ss : List Sentence} → (A → ⊥) → FirstFalse k ((k, A) ∷ ss)
+  kept : {n : ℕ} {A : Type 0} {ss : List Sentence} → A → FirstFalse k ss → FirstFalse k ((n, A) ∷ ss)
+
+-- the sentences of the rules, in the request's order
+unfoldable pub sentencesAt : List Well → Well → List Sentence
+sentencesAt ws w =
+    (ruleNumber Number, KeepsNumber w)
+    ∷ (ruleNumber Kind, KeepsKind w)
+    ∷ (ruleNumber LinkCount, KeepsLinkCount w)
+    ∷ (ruleNumber Rate, KeepsRate w)
+    ∷ (ruleNumber Links, KeepsLinks ws w)
+    ∷ (ruleNumber Shares, KeepsShares w)
+    ∷ (ruleNumber UnusedLinks, KeepsUnusedLinks w)
+    ∷ (ruleNumber Repeat, KeepsRepeat ws w)
+    ∷ []

@@ -26,7 +26,7 @@ module _ (f g : ℕ → Bool) (w : Well) {k : ℕ} (e : k ≡ firstOf (shapeRule
 
 module _ (w : Well) (e : firstOf (shapeRules w) ≡ 0) where
   kept : (breaksKind w ≡ false) × (breaksLinkCount w ≡ false)
-  unfolding shapeRules
+  unfolding shapeRules rulesBy
   kept = let h = none-of (shapeRules w) [] (omega arith) e .0 in (h .1 .0, h .1 .1 .0)
 
   -- at most four, and none of an injector

@@ -1,11 +1,12 @@
 -- `plan::check` meets its contract: refused, or the first fault by a set that has the sheet's injectors.
 -- Assumes nothing.
-use mathlib.Core.Path.{_≡_, refl, sym, _∙_, fun-ext}
+use mathlib.Core.Path.{_≡_, sym, _∙_, fun-ext}
 use mathlib.Core.Bool.{or-false}
-use Prim.Native.Nat.{ℕ, zero, suc, _*_, _≤_}
+use Prim.Native.Nat.{_*_, _≤_}
 use denote.Ref.{now}
 use lib.ListN.{length}
 use Rattle.definition.specs.Refusal.{firstOf, whenDone}
+use Rattle.definition.proofs.Refusals.{not-done}
 use Rattle.plan_definition.specs.Well.{wells}
 use Rattle.plan_definition.specs.Rules.{isInjectorOf}
 use Rattle.plan_definition.specs.Check.{checkRefusals, verdict}
@@ -15,12 +16,6 @@ use Rattle.plan_numbers.proofs.Numbers.{none-has}
 use Rattle.plan.specs.Sets.{plusInjectors}
 use Rattle.plan.proofs.check.Statement.{statement}
 use Rattle.plan.proofs.check.Tie as tie
-
--- what a call that isn't done leaves
-not-done : {A : Type 0} (k : ℕ) (a b : A) → (k ≡ 0 → ⊥) → whenDone k a b ≡ b
-unfolding whenDone
-not-done zero a b h = absurd (h refl)
-not-done (suc k) a b h = refl
 
 -- the number is that of the refusals
 number : (c : tie.After-held) → c .held .result ≡ firstOf (checkRefusals (c .before .before .args .n) (length (now (c .before .before .args .sheet))))

@@ -1,7 +1,6 @@
 -- `plan_rules::broken` meets its contract: one of the first four rules, or the tests that led to the return say which is first.
 -- Assumes nothing.
 use mathlib.Core.Path.{_≡_, sym, _∙_}
-use mathlib.Core.Bool.{false}
 use borrow.Author.Needs.{needs}
 use denote.Ref.{now}
 use Rattle.definition.specs.Refusal.{pick, firstOf}
@@ -46,11 +45,11 @@ unfolding breaksUnusedLinks unused
 unused-links c = rw (few-links _ (shape (shaped (c .before .before .before))) .1) (c .unused-breaks .ensures)
 
 returns-2 : tie.Need-returns-2
-unfolding firstOf pick linkRules
+unfolding firstOf pick linkRules rulesBy
 returns-2 c = rw (after (shaped (c .before)), sym (links (c .before)) ∙ c .if2 .taken)
 
 returns-3 : tie.Need-returns-3
-unfolding firstOf pick linkRules
+unfolding firstOf pick linkRules rulesBy
 returns-3 c =
     let s = c .before .before in
     rw (after (shaped s), sym (links s) ∙ c .before .if2 .left, sym (shares s) ∙ c .if3 .taken)
@@ -59,7 +58,7 @@ returns-3 c =
 unbroken : (c : tie.Else3) → let a = start (c .before .before) .args in
     firstOf (rulesBy (has (now (a .injectors))) (has (now (a .seen))) (a .w))
     ≡ pick (breaksUnusedLinks (a .w)) 7 (pick (has (now (a .seen)) (a .w .number)) 8 0)
-unfolding firstOf pick linkRules breaksRepeat
+unfolding firstOf pick linkRules rulesBy breaksRepeat
 unbroken c =
     let s = c .before .before in
     rw (after (shaped s), sym (links s) ∙ c .before .if2 .left, sym (shares s) ∙ c .if3 .left)

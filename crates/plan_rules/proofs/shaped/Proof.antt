@@ -7,13 +7,13 @@ use borrow.Author.Tests.{eq-eqb, ne-eqb, lt-ltb, le-ltb}
 use lib.Dec.{ltb}
 use Rattle.definition.specs.Refusal.{pick, firstOf}
 use Rattle.plan_definition.specs.declared.Well.{Well}
-use Rattle.plan_definition.specs.Rules.{breaksNumber, breaksKind, breaksLinkCount, breaksRate}
+use Rattle.plan_definition.specs.Rules.{breaksNumber, breaksKind, breaksLinkCount, breaksRate, rulesBy}
 use Rattle.plan_rules.specs.Parts.{shapeRules}
 use Rattle.plan_rules.proofs.shaped.Statement.{statement}
 use Rattle.plan_rules.proofs.shaped.Tie as tie
 
 returns : tie.Need-returns
-unfolding firstOf pick shapeRules breaksNumber
+unfolding firstOf pick shapeRules rulesBy breaksNumber
 returns c = rw (eq-eqb _ _ (c .if1 .taken))
 
 -- the rules before a test hold where it is made
@@ -28,11 +28,11 @@ link-count : (c : tie.Else3) → breaksLinkCount (c .before .before .before .bef
 link-count c = sym (c .before .count-breaks .ensures) ∙ c .if3 .left
 
 returns-2 : tie.Need-returns-2
-unfolding firstOf pick shapeRules
+unfolding firstOf pick shapeRules rulesBy
 returns-2 c = rw (number (c .before .before), sym (c .before .kind-breaks .ensures) ∙ c .if2 .taken)
 
 returns-3 : tie.Need-returns-3
-unfolding firstOf pick shapeRules
+unfolding firstOf pick shapeRules rulesBy
 returns-3 c =
     let k = c .before .before in
     rw (number (k .before .before), kind k, sym (c .before .count-breaks .ensures) ∙ c .if3 .taken)
@@ -42,7 +42,7 @@ abbrev well : tie.After-struct-known2 → Well
 well c = c .before .before .before .before .before .before .before .args .w
 
 rate : (c : tie.After-struct-known2) → firstOf (shapeRules (well c)) ≡ pick (ltb 100000 (well c .rate)) 4 0
-unfolding firstOf pick shapeRules breaksRate
+unfolding firstOf pick shapeRules rulesBy breaksRate
 rate c =
     let l = c .before in
     let k = l .before .before in
