@@ -1,6 +1,6 @@
 -- `plan_rules::links_break` meets its contract. The loop's invariant: what is left decides.
 -- Assumes nothing.
-use mathlib.Core.Path.{_≡_, refl, sym, ap, _∙_}
+use mathlib.Core.Path.{_≡_, refl, sym, _∙_}
 use mathlib.Core.Bool.{not, _||_}
 use Prim.Native.Nat.{suc, _-_, _≤_}
 use native.Mathlib.Numerals.{add-one}
@@ -9,12 +9,12 @@ use borrow.Author.Needs.{needs}
 use borrow.Author.Tests.{not-true, not-false}
 use denote.Ref.{now}
 use lib.ListN.{length, getD}
-use lib.Seq.{slice, slice-empty}
+use lib.Seq.{slice}
 use Rattle.plan_definition.specs.Some.{some}
 use Rattle.plan_definition.specs.Well.{noLink}
 use Rattle.plan_definition.specs.Rules.{namesSame, misnamed}
 use Rattle.plan_numbers.specs.Numbers.{has}
-use Rattle.plan_rules.proofs.Links.{misnamed-left}
+use Rattle.plan_rules.proofs.Links.{none-left, misnamed-left}
 use Rattle.plan_rules.proofs.links_break.Statement.{statement}
 use Rattle.plan_rules.proofs.links_break.Tie as tie
 
@@ -71,8 +71,7 @@ unfolding misnamed
 returns-3 c =
     let l = c .before .loop in
     let a = c .before .before .args in
-    let e : l .k ≡ a .count = omega arith in
-    sym (ap (misnamed (has (now (a .injectors)))) (slice-empty (a .count) (a .t1))) ∙ rw e at (l .inv .1)
+    none-left (misnamed (has (now (a .injectors)))) (l .k) (a .count) (a .t1) (omega arith) ∙ l .inv .1
 
 pub links-break-spec : {M : Type 1} → statement M
 links-break-spec =

@@ -1,6 +1,6 @@
 -- `plan_rules::named_again` meets its contract. The loop's invariant: what is left decides.
 -- Assumes nothing.
-use mathlib.Core.Path.{_≡_, refl, sym, ap, _∙_}
+use mathlib.Core.Path.{_≡_, refl, sym, _∙_}
 use mathlib.Core.Bool.{_||_}
 use Prim.Native.Nat.{suc, _-_, _≤_}
 use native.Mathlib.Numerals.{add-one}
@@ -9,11 +9,11 @@ use borrow.Author.Needs.{needs}
 use borrow.Author.Tests.{eq-eqb, ne-eqb}
 use lib.Dec.{eqb}
 use lib.ListN.{length, getD}
-use lib.Seq.{slice, slice-empty}
+use lib.Seq.{slice}
 use Rattle.plan_definition.specs.Some.{some}
 use Rattle.plan_definition.specs.Well.{noLink}
 use Rattle.plan_definition.specs.Rules.{namesSame}
-use Rattle.plan_rules.proofs.Links.{some-left}
+use Rattle.plan_rules.proofs.Links.{none-left, some-left}
 use Rattle.plan_rules.proofs.named_again.Statement.{statement}
 use Rattle.plan_rules.proofs.named_again.Tie as tie
 
@@ -54,8 +54,7 @@ unfolding some
 returns-2 c =
     let l = c .before .loop in
     let a = c .before .before .args in
-    let e : l .j ≡ a .count = omega arith in
-    sym (ap (some (namesSame (a .l))) (slice-empty (a .count) (a .t1))) ∙ rw e at (l .inv .1)
+    none-left (some (namesSame (a .l))) (l .j) (a .count) (a .t1) (omega arith) ∙ l .inv .1
 
 pub named-again-spec : {M : Type 1} → statement M
 named-again-spec =

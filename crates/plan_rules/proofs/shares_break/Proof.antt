@@ -2,7 +2,6 @@
 -- Assumes nothing.
 use mathlib.Core.Path.{_≡_, refl, sym, _∙_}
 use mathlib.Core.Bool.{not, _&&_, _||_}
-use mathlib.Core.List.{[]}
 use Prim.Native.Nat.{ℕ, suc, _+_, _-_, _*_, _≤_}
 use native.Mathlib.Numerals.{add-one}
 use native.Mathlib.Omega.{arith}
@@ -10,12 +9,12 @@ use borrow.Author.Needs.{needs}
 use borrow.Author.Tests.{eq-eqb, ne-eqb, le-leb, lt-leb}
 use lib.Dec.{eqb, leb}
 use lib.ListN.{length, getD}
-use lib.Seq.{slice, slice-empty}
+use lib.Seq.{slice}
 use Rattle.plan_definition.specs.Some.{some}
 use Rattle.plan_definition.specs.Well.{noLink}
 use Rattle.plan_definition.specs.Rules.{noShare, total}
 use Rattle.plan_rules.specs.Parts.{misshared}
-use Rattle.plan_rules.proofs.Links.{some-left, total-left}
+use Rattle.plan_rules.proofs.Links.{none-left, some-left, total-left}
 use Rattle.plan_rules.proofs.shares_break.Statement.{statement}
 use Rattle.plan_rules.proofs.shares_break.Tie as tie
 
@@ -86,10 +85,9 @@ unfolding some total
 returns-4 c =
     let l = c .before .loop in
     let a = c .before .before .before .args in
-    let e : l .k ≡ a .count = omega arith in
-    let none : slice (l .k) (a .count) (a .t1) ≡ [] = rw e (slice-empty (a .count) (a .t1)) in
-    let all : l .sum ≡ total (slice 0 (a .count) (a .t1)) = omega (arith, rw none at (l .inv .2)) in
-    rw all (rw (sym (rw none at (l .inv .3))) at (shares (c .before .before)))
+    let ended : l .k ≡ a .count = omega arith in
+    let all : l .sum ≡ total (slice 0 (a .count) (a .t1)) = omega (arith, l .inv .2, none-left total (l .k) (a .count) (a .t1) ended) in
+    rw all (rw (sym (none-left (some noShare) (l .k) (a .count) (a .t1) ended ∙ l .inv .3)) at (shares (c .before .before)))
 
 pub shares-break-spec : {M : Type 1} → statement M
 shares-break-spec =

@@ -9,11 +9,11 @@ use borrow.Author.Needs.{needs}
 use borrow.Author.Tests.{eq-eqb, ne-eqb}
 use lib.Dec.{eqb}
 use lib.ListN.{length, getD, drop}
-use lib.Seq.{take-all, slice, slice-empty}
+use lib.Seq.{take-all, slice}
 use Rattle.plan_definition.specs.Some.{some}
 use Rattle.plan_definition.specs.Well.{noLink}
 use Rattle.plan_definition.specs.Rules.{notZero}
-use Rattle.plan_rules.proofs.Links.{some-left}
+use Rattle.plan_rules.proofs.Links.{none-left, some-left}
 use Rattle.plan_rules.proofs.unused_breaks.Statement.{statement}
 use Rattle.plan_rules.proofs.unused_breaks.Tie as tie
 
@@ -59,9 +59,7 @@ returns-3 : tie.Need-returns-3 Inv-loop μ-loop
 unfolding some
 returns-3 c =
     let l = c .before .loop in
-    let a = c .before .before .args in
-    let e : l .k ≡ 4 = omega arith in
-    sym (ap (some notZero) (slice-empty 4 (a .t1))) ∙ rw e at (l .inv .1)
+    none-left (some notZero) (l .k) 4 (c .before .before .args .t1) (omega arith) ∙ l .inv .1
 
 pub unused-breaks-spec : {M : Type 1} → statement M
 unused-breaks-spec =
