@@ -9,8 +9,8 @@
  *
  * The caller's duties, which no call can judge:
  *   - Each pointer is valid for the length that follows it: for reading, and for writing too unless
- *     it points to const. Where the length is 0 the pointer may be null. Lengths are in bytes, that
- *     of marks is in words.
+ *     it points to const. Where the length is 0 the pointer may be null. Lengths are in bytes, those
+ *     of marks, counts, intake and spare in elements.
  *   - A buffer lent for writing overlaps no other buffer of the same call. So a claim isn't lent as
  *     the output buffer too.
  *   - Until the call returns, nobody else writes to a lent buffer or reads one lent for writing.
@@ -44,7 +44,7 @@ extern "C" {
 #define LUFFA_OUT 2    /* the output buffer is shorter than the digest */
 #define LUFFA_RECORD 3 /* the hash record isn't well formed, or has another length */
 #define LUFFA_LONG 4   /* the message would pass LUFFA_LIMIT */
-/* 5 to 11 are given by the sheet calls, and 5 by luffa_plan_check too. */
+/* 5 to 11 are given by the sheet calls, and 5 by the calls on what a sheet means too. */
 #define LUFFA_SHEET 5  /* too many records, or the buffer is too short for them */
 #define LUFFA_MARKS 6  /* too few words for the marks */
 #define LUFFA_PLACE 7  /* no record at this place */
@@ -52,6 +52,9 @@ extern "C" {
 #define LUFFA_SIZE 9   /* the new record has another length */
 #define LUFFA_CLAIM 10 /* the claimed digest has another length */
 #define LUFFA_STALE 11 /* the claim isn't the digest of the sheet held */
+/* 13 and 25 are given by luffa_plan_brine. */
+#define LUFFA_BATCH 13 /* too many sheets */
+#define LUFFA_LIST 25  /* a list has fewer places than the batch has records */
 
 /*
  * The digest of a whole message, in the first bytes of out. The bytes after it stay as they were.
@@ -287,10 +290,42 @@ struct luffa_content_answer {
  * Whether the n records of a sheet are sound, or else the lowest faulty place and the first rule that
  * is broken there. A sheet of no records is sound. Nothing is written; notes and what lies behind the
  * n-th record don't matter. The time is a fixed part and so much a record, however many there are. The
- * call takes up to 17 KiB of stack, every other one up to 4 KiB.
+ * call takes up to 17 KiB of stack, luffa_plan_brine up to 160 KiB, every other one up to 4 KiB.
  *   5 LUFFA_SHEET   n is over LUFFA_SHEET_MOST, or sheet_len is less than 40n
  */
 struct luffa_content_answer luffa_plan_check(const uint8_t *sheet, size_t sheet_len, size_t n);
+
+/*
+ * The brine statement: one page over a batch of sheets, which lie one after another in one buffer,
+ * counts[k] records each. An injector's intake is what it is sent, in kilograms a day: over all producers
+ * of the same sheet and their links that name it, rate times share. Its spare capacity is 1000 times its
+ * rate less the intake, below zero where it is overloaded.
+ *
+ * Both lists have a place for each record of the batch, in order: in intake[p] and spare[p] stand the
+ * figures of the record at 40p of the buffer, if it is an injector's of a sound sheet, else 0 in both.
+ * Places beyond stay as they were. A sheet that luffa_plan_check faults keeps its room in the buffer and
+ * its places in the lists, and counts in faulted alone.
+ */
+#define LUFFA_BATCH_MOST 64
+
+/* Look at number first: where it isn't LUFFA_DONE, the other four are 0 and say nothing. sound and faulted
+   are sheets, together those of the batch; intake is the total of the list, which for every sound sheet is
+   1000 times its producers' rates; overloaded is how many injectors have less than 0 to spare. */
+struct luffa_brine_answer {
+    uint64_t number, sound, faulted, intake, overloaded;
+};
+
+/*
+ * A batch of no sheets has an empty page, and a sheet of no records is sound. The time is a fixed part, so
+ * much a sheet and so much a record. The call takes up to 160 KiB of stack.
+ *   13 LUFFA_BATCH   counts_len is over LUFFA_BATCH_MOST
+ *   5  LUFFA_SHEET   a count is over LUFFA_SHEET_MOST, or sheets_len is less than 40 for each record
+ *   25 LUFFA_LIST    intake_len or spare_len is less than the records of the batch
+ */
+struct luffa_brine_answer luffa_plan_brine(const uint8_t *sheets, size_t sheets_len,
+                                           const size_t *counts, size_t counts_len,
+                                           uint64_t *intake, size_t intake_len,
+                                           int64_t *spare, size_t spare_len);
 
 #ifdef __cplusplus
 }

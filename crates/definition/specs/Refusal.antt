@@ -42,6 +42,13 @@ CLAIM = 10
 abbrev pub STALE : ℕ
 STALE = 11
 
+-- and document 02's of the brine statement, Q-3
+abbrev pub BATCH : ℕ
+BATCH = 13
+
+abbrev pub LIST : ℕ
+LIST = 25
+
 -- a refusal: its number, and whether its condition holds
 abbrev pub Refusal : Type 0
 Refusal = ℕ × Bool
