@@ -1,0 +1,2 @@
+-- Laws that the proofs share, and for callers.
+pub mod Places

@@ -1,0 +1,2 @@
+-- The places of wells by their numbers.
+pub mod Places
