@@ -1,0 +1,2 @@
+-- What is sent to the places of a sheet.
+pub mod Sent
