@@ -1,0 +1,67 @@
+-- Sums and counts of lists one after another, of a list of one value, and what bounds them.
+-- Assumes nothing.
+use mathlib.Core.Path.{_≡_, refl}
+use mathlib.Core.Bool.{Bool, true, false}
+use mathlib.Core.List.{List, [], _∷_, _++_, map, map-append}
+use Prim.Native.Nat.{ℕ, zero, suc, _+_, _≤_}
+use native.Mathlib.Omega.{arith}
+use lib.ListN.{length, getD, replicate, length-map}
+use Rattle.definition.specs.Refusal.{pick}
+use Rattle.brine_definition.specs.Count.{sum, count}
+use Rattle.brine_definition.specs.Page.{Row}
+use Rattle.brine_definition.specs.Statement.{intakes, spares}
+
+-- of two lists, one after the other
+pub sum-append : (l m : List ℕ) → sum (l ++ m) ≡ sum l + sum m
+unfolding sum
+sum-append [] m = omega arith
+sum-append (a ∷ l) m = omega (arith, sum-append l m)
+
+pub intakes-append : (rs ss : List Row) → intakes (rs ++ ss) ≡ intakes rs ++ intakes ss
+unfolding intakes
+intakes-append rs ss = map-append (λ r. r .intake) rs ss
+
+pub spares-append : (rs ss : List Row) → spares (rs ++ ss) ≡ spares rs ++ spares ss
+unfolding spares
+spares-append rs ss = map-append (λ r. r .spare) rs ss
+
+pub length-intakes : (rs : List Row) → length (intakes rs) ≡ length rs
+unfolding intakes
+length-intakes rs = length-map rs (λ r. r .intake)
+
+pub length-spares : (rs : List Row) → length (spares rs) ≡ length rs
+unfolding spares
+length-spares rs = length-map rs (λ r. r .spare)
+
+-- zeros add up to nothing
+pub sum-zeros : (n : ℕ) → sum (replicate n 0) ≡ 0
+unfolding sum
+sum-zeros zero = refl
+sum-zeros (suc n) = omega (arith, sum-zeros n)
+
+-- an element is at most the sum
+pub at-most-sum : (l : List ℕ) (i : ℕ) → getD l i 0 ≤ sum l
+unfolding sum
+at-most-sum [] i = omega arith
+at-most-sum (a ∷ l) zero = omega arith
+at-most-sum (a ∷ l) (suc i) = omega (arith, at-most-sum l i)
+
+pub map-replicate : {A B : Type 0} (f : A → B) (n : ℕ) (a : A) → map f (replicate n a) ≡ replicate n (f a)
+map-replicate f zero a = refl
+map-replicate f (suc n) a = rw (map-replicate f n a)
+
+module _ {A : Type 0} where
+  pub count-append : (f : A → Bool) (l m : List A) → count f (l ++ m) ≡ count f l + count f m
+  unfolding count
+  count-append f [] m = omega arith
+  count-append f (a ∷ l) m = omega (arith, count-append f l m)
+
+  -- no more pass than there are
+  pub count-most : (f : A → Bool) (l : List A) → count f l ≤ length l
+  unfolding count pick
+  count-most f [] = omega arith
+  count-most f (a ∷ l) = omega (arith, count-most f l, one (f a))
+    where
+      one : (b : Bool) → pick b 1 0 ≤ 1
+      one true = omega arith
+      one false = omega arith
