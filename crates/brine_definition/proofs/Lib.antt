@@ -1,3 +1,5 @@
 -- Laws of the brine statement's definitions, which the crates above cite, and examples that the checker computes.
 pub mod Sums
 pub mod Sound
+pub mod Bounds
+pub mod Conserved

@@ -73,5 +73,4 @@ length-wells n sheet = wells-from 0 (cut n sheet) ∙ length-cut n sheet
 pub length-page : (counts sheets : List ℕ) → length (page (batch counts sheets)) ≡ sum counts
 unfolding page batch sum
 length-page [] sheets = refl
-length-page (n ∷ ns) sheets =
-    simp (length-append, length-rows, length-wells, length-page ns)
+length-page (n ∷ ns) sheets = simp (length-append, length-rows, length-wells, length-page ns)

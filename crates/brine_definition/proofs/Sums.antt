@@ -33,6 +33,12 @@ pub length-spares : (rs : List Row) → length (spares rs) ≡ length rs
 unfolding spares
 length-spares rs = length-map rs (λ r. r .spare)
 
+-- what a test that passes lets in is no more than a bound, if it isn't there
+pub pick-most : (b : Bool) (a m : ℕ) → (b ≡ true → a ≤ m) → pick b a 0 ≤ m
+unfolding pick
+pick-most true a m h = h refl
+pick-most false a m h = omega arith
+
 -- zeros add up to nothing
 pub sum-zeros : (n : ℕ) → sum (replicate n 0) ≡ 0
 unfolding sum
@@ -58,10 +64,6 @@ module _ {A : Type 0} where
 
   -- no more pass than there are
   pub count-most : (f : A → Bool) (l : List A) → count f l ≤ length l
-  unfolding count pick
+  unfolding count
   count-most f [] = omega arith
-  count-most f (a ∷ l) = omega (arith, count-most f l, one (f a))
-    where
-      one : (b : Bool) → pick b 1 0 ≤ 1
-      one true = omega arith
-      one false = omega arith
+  count-most f (a ∷ l) = omega (arith, count-most f l, pick-most (f a) 1 1 (λ e. omega arith))

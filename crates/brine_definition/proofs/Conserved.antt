@@ -1,0 +1,142 @@
+-- The request's theorem: "For every sound sheet the intakes are proved to total 1000 times the producers' rates." Each link names one injector
+-- of the sheet, so over all injectors a producer's links bring what they carry.
+-- Assumes nothing.
+use mathlib.Core.Path.{_≡_, refl, sym, _∙_}
+use mathlib.Core.Bool.{Bool, true, false, _&&_}
+use mathlib.Core.List.{List, [], _∷_, map}
+use Prim.Native.Nat.{ℕ, _+_, _*_, _≤_}
+use native.Mathlib.Omega.{arith}
+use lib.Dec.{eqb}
+use lib.ListN.{length, drop}
+use borrow.Author.Tests.{eq-eqb, ne-eqb}
+use Rattle.definition.specs.Refusal.{pick}
+use Rattle.sheet_definition.specs.Run.{cut}
+use Rattle.plan_definition.specs.declared.Link.{Link}
+use Rattle.plan_definition.specs.declared.Well.{Well}
+use Rattle.plan_definition.specs.Some.{Among}
+use Rattle.plan_definition.specs.Some.Among.{here, later}
+use Rattle.plan_definition.specs.Well.{wellsFrom, wells}
+use Rattle.plan_definition.specs.Rules.{producer, injector, used, total}
+use Rattle.plan_definition.specs.Sound.{NamesInjector, Keeps, KeepsLinks, KeepsRepeat, Sound}
+use Rattle.plan_definition.proofs.Faults.{Rising, rising}
+use Rattle.brine_definition.specs.Count.{sum}
+use Rattle.brine_definition.specs.Page.{Row, brought, intakeFrom, rowOf, rowWhen, sound, rows, produced}
+use Rattle.brine_definition.specs.Statement.{batch, page, intakes}
+use Rattle.brine_definition.proofs.Sums.{sum-append, sum-zeros, intakes-append}
+use Rattle.brine_definition.proofs.Sound.{sound-exactly, faulted-intakes, length-wells}
+use Rattle.brine_definition.proofs.Bounds.{carried, produced-most}
+
+-- what some wells' injectors receive, if one of number k receives f k
+abbrev received : List Well → (ℕ → ℕ) → ℕ
+received [] f = 0
+received (v ∷ vs) f = pick (injector v) (f (v .number)) 0 + received vs f
+
+-- it is additive
+pick-add : (b : Bool) (x y : ℕ) → pick b (x + y) 0 ≡ pick b x 0 + pick b y 0
+unfolding pick
+pick-add true x y = refl
+pick-add false x y = refl
+
+received-add : (vs : List Well) (f g : ℕ → ℕ) → received vs (λ k. f k + g k) ≡ received vs f + received vs g
+received-add [] f g = refl
+received-add (v ∷ vs) f g = omega (arith, pick-add (injector v) (f (v .number)) (g (v .number)), received-add vs f g)
+
+-- where none of them has the number, nothing is received
+pick-zero : (b : Bool) → pick b 0 0 ≡ 0
+unfolding pick
+pick-zero true = refl
+pick-zero false = refl
+
+received-none : (vs : List Well) (f : ℕ → ℕ) → ((v : Well) → Among v vs → f (v .number) ≡ 0) → received vs f ≡ 0
+received-none [] f h = refl
+received-none (v ∷ vs) f h = rw (h v here, pick-zero (injector v), received-none vs f (λ u m. h u (later m)))
+
+-- the wells after each have other numbers
+abbrev Distinct : List Well → Type 0
+Distinct [] = Unit
+Distinct (w ∷ ws) = ((v : Well) → Among v ws → w .number ≡ v .number → ⊥) × Distinct ws
+
+-- so what goes to one injector is received once
+abbrev to : (number kilograms : ℕ) → ℕ → ℕ
+to j a k = pick (eqb j k) a 0
+
+received-once : (j a : ℕ) {u : Well} {vs : List Well} → Distinct vs → Among u vs → u .number ≡ j → u .kind ≡ 2 → received vs (to j a) ≡ a
+unfolding injector pick
+received-once j a {u} d (here {l = vs}) e k =
+    let none = received-none vs (to j a) (λ v m. rw (ne-eqb j (v .number) (λ q. d .0 v m (e ∙ q)))) in
+    rw (eq-eqb j (u .number) (sym e), eq-eqb (u .kind) 2 k, none) (omega arith)
+received-once j a {u} d (later {b = v} {l = vs} m) e k =
+    rw (ne-eqb j (v .number) (λ q. d .0 u m (sym q ∙ sym e)), pick-zero (injector v), received-once j a (d .1) m e k)
+    (omega arith)
+
+module _ (ws : List Well) (distinct : Distinct ws) where
+  -- links that name injectors bring them what they carry
+  links-bring : (rate : ℕ) (ls : List Link) → ((l : Link) → Among l ls → NamesInjector ws (l .injector))
+      → received ws (brought rate ls) ≡ rate * total ls
+  unfolding brought total NamesInjector
+  links-bring rate [] h = received-none ws (λ k. 0) (λ v m. refl) ∙ omega arith
+  links-bring rate (l ∷ ls) h =
+      let n = h l here in
+      received-add ws (to (l .injector) (rate * l .share)) (brought rate ls)
+      ∙ omega (arith, received-once (l .injector) (rate * l .share) distinct (n .1) (n .2) (n .3), links-bring rate ls (λ m a. h m (later a)))
+
+  -- and all producers' bring 1000 times their rates
+  producers-bring : (ps : List Well) → ((w : Well) → Among w ps → Keeps ws w) → received ws (intakeFrom ps) ≡ 1000 * produced ps
+  unfolding intakeFrom produced KeepsLinks pick
+  producers-bring [] h = received-none ws (λ k. 0) (λ v m. refl)
+  producers-bring (w ∷ ps) h =
+      received-add ws (λ k. pick (producer w) (brought (w .rate) (used w) k) 0) (intakeFrom ps)
+      ∙ omega (arith, one (producer w) refl, producers-bring ps (λ v m. h v (later m)))
+    where
+      one : (b : Bool) → producer w ≡ b → received ws (λ k. pick b (brought (w .rate) (used w) k) 0) ≡ 1000 * pick b (w .rate) 0
+      one true p = links-bring (w .rate) (used w) (h w here .links .0) ∙ carried (h w here) p
+      one false p = received-none ws (λ k. 0) (λ v m. refl)
+
+-- numbers that don't repeat at places that rise
+distinct : (all ws : List Well) → ((w : Well) → Among w ws → Among w all) → Rising ws → Sound all → Distinct ws
+unfolding Sound KeepsRepeat
+distinct all [] i r h = tt
+distinct all (w ∷ ws) i r h =
+    (λ v m e. h v (i v (later m)) .repeat w (i w here) (r .0 v m) e, distinct all ws (λ v m. i v (later m)) (r .1) h)
+
+-- the intakes of a sound sheet are what its injectors receive
+when-intake : (b : Bool) (r : Row) → rowWhen b r .intake ≡ pick b (r .intake) 0
+unfolding rowWhen pick
+when-intake true r = refl
+when-intake false r = refl
+
+intakes-received : (ws : List Well) → sound ws ≡ true → sum (intakes (rows ws)) ≡ received ws (intakeFrom ws)
+unfolding rows intakes sum rowOf
+intakes-received ws e = rw e (go ws)
+  where
+    go : (vs : List Well) → sum (map (λ r. r .intake) (map (λ w. rowWhen (true && injector w) (rowOf ws w)) vs)) ≡ received vs (intakeFrom ws)
+    go [] = refl
+    go (v ∷ vs) = rw (when-intake (injector v) (rowOf ws v), go vs)
+
+-- the theorem, for any records
+pub conserved : (xs : List (List ℕ)) → Sound (wellsFrom 0 xs) → sum (intakes (rows (wellsFrom 0 xs))) ≡ 1000 * produced (wellsFrom 0 xs)
+unfolding Sound
+conserved xs h =
+    let ws = wellsFrom 0 xs in
+    intakes-received ws (sound-exactly ws .1 h)
+    ∙ producers-bring ws (distinct ws ws (λ w m. m) (rising 0 xs) h) ws h
+
+-- no sheet's intakes total more than 100,000,000 for each record
+sheet-most : (n : ℕ) (sheet : List ℕ) → sum (intakes (rows (wells n sheet))) ≤ 100000000 * n
+unfolding wells
+sheet-most n sheet = go (sound (wells n sheet)) refl
+  where
+    go : (b : Bool) → sound (wells n sheet) ≡ b → sum (intakes (rows (wells n sheet))) ≤ 100000000 * n
+    go true e =
+        let h = sound-exactly (wells n sheet) .0 e in
+        omega (arith, conserved (cut n sheet) h, produced-most (wells n sheet) h, length-wells n sheet)
+    go false e = rw (faulted-intakes (wells n sheet) e, sum-zeros (length (wells n sheet))) (omega arith)
+
+-- and no batch's
+pub total-most : (counts sheets : List ℕ) → sum (intakes (page (batch counts sheets))) ≤ 100000000 * sum counts
+unfolding page batch sum intakes
+total-most [] sheets = omega arith
+total-most (n ∷ ns) sheets =
+    let rest = drop (40 * n) sheets in
+    rw (intakes-append (rows (wells n sheets)) (page (batch ns rest)), sum-append (intakes (rows (wells n sheets))) (intakes (page (batch ns rest))))
+    (omega (arith, sheet-most n sheets, total-most ns rest))
