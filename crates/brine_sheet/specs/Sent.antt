@@ -3,7 +3,7 @@ use Prim.Native.Nat.{ℕ, _+_, _*_, _^_, _<_, _≤_}
 use mathlib.Core.Path.{_≡_}
 use mathlib.Core.List.{List, [], _∷_}
 use lib.Dec.{eqb}
-use lib.ListN.{getD}
+use lib.ListN.{length, getD}
 use Rattle.definition.specs.Refusal.{pick}
 use Rattle.plan_definition.specs.declared.Link.{Link}
 use Rattle.plan_definition.specs.declared.Well.{Well}
@@ -33,4 +33,4 @@ unfoldable pub Added : (more : ℕ → ℕ) → (before after : List ℕ) → Ty
 Added f x y = (q : ℕ) → getD y q 0 ≡ getD x q 0 + f q
 
 unfoldable pub Takes : (more : ℕ → ℕ) → List ℕ → Type 0
-Takes f x = (q : ℕ) → getD x q 0 + f q < 2 ^ 64
+Takes f x = (q : ℕ) → q < length x → getD x q 0 + f q < 2 ^ 64

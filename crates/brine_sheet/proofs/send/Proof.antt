@@ -67,7 +67,7 @@ step c q =
 fits : (c : tie.After-at Inv-loop μ-loop) → getD (turn (c .before) .loop .intake) (c .at .result) 0 + start (c .before) .args .rate * getD (start (c .before) .args .t2) (turn (c .before) .loop .k) noLink .share < 2 ^ 64
 unfolding Takes pick
 fits c =
-    let whole = start (c .before) .pre .2 (c .at .result) in
+    let whole = start (c .before) .pre .2 (c .at .result) (rw (← turn (c .before) .loop .inv .1) (below c)) in
     omega (arith, whole, rw (eq-eqb (c .at .result) (c .at .result) refl) at (step c (c .at .result)))
 
 loop-again : tie.Need-loop-again Inv-loop μ-loop

@@ -70,9 +70,9 @@ takes : (c : tie.After-read Inv-loop μ-loop) → c .read .result .kind ≡ 1 �
     let w = c .read .result in
     Takes (broughtTo (now (start (c .before) .args .places)) (w .rate) (slice 0 (w .count) (w .links))) (c .before .before .loop .intake)
 unfolding Takes
-takes c e q =
+takes c e q h =
     let a = start (c .before) .args in
-    omega (arith, start (c .before) .pre .2 q, step c q, sent-producer (now (a .places)) (c .read .result) (left (suc (c .before .before .loop .i)) (a .n) (now (a .sheet))) q e)
+    omega (arith, start (c .before) .pre .2 q (rw (← c .before .before .loop .inv .1) h), step c q, sent-producer (now (a .places)) (c .read .result) (left (suc (c .before .before .loop .i)) (a .n) (now (a .sheet))) q e)
 
 send-requires : tie.Need-send-requires Inv-loop μ-loop
 send-requires c κs =

@@ -1,0 +1,48 @@
+-- A list that has a well's figure at its place is the column of these figures; and the intakes that were sent are the page's.
+-- Assumes nothing.
+use mathlib.Core.Path.{_≡_, refl, sym, _∙_}
+use mathlib.Core.Bool.{Bool, true, false, _&&_}
+use mathlib.Core.List.{List, map, map-map}
+use Prim.Native.Nat.{ℕ, zero, suc, _+_, _*_, _<_, _≤_}
+use native.Mathlib.Omega.{arith}
+use lib.ListN.{length, getD, drop, replicate, drop-of-length-le, getD-replicate}
+use lib.Seq.{drop-cons}
+use Rattle.definition.specs.Refusal.{pick}
+use Rattle.plan_definition.specs.declared.Well.{Well}
+use Rattle.plan_definition.specs.Well.{wells}
+use Rattle.plan_definition.specs.Rules.{injector}
+use Rattle.plan_definition.proofs.Places.{wellAt, left, left-all, left-step, left-none}
+use Rattle.plan_places.specs.Places.{placed}
+use Rattle.brine_definition.specs.Page.{Row, intakeFrom, rowOf, rowWhen, sound, rows}
+use Rattle.brine_definition.specs.Statement.{intakes}
+use Rattle.brine_definition.proofs.Sound.{sound-exactly}
+use Rattle.brine_sheet.specs.Sent.{sentTo, Added}
+use Rattle.brine_sheet.proofs.Found.{sent-there}
+
+module _ (n : ℕ) (sheet : List ℕ) where
+  module _ {A : Type 0} (f : Well → A) (d : A) (x : List A) (long : length x ≡ n) (each : (q : ℕ) → q < n → getD x q d ≡ f (wellAt q sheet)) where
+    from : (k i : ℕ) → i + k ≡ n → drop i x ≡ map f (left i n sheet)
+    from zero i e =
+        let z : i ≡ n = omega arith in
+        drop-of-length-le x {i = i} (omega arith) ∙ rw (z, left-none n sheet)
+    from (suc k) i e =
+        drop-cons x i d (omega arith) ∙ rw (each i (omega arith), from k (suc i) (omega arith), left-step n sheet i (omega arith))
+
+    pub column : x ≡ map f (wells n sheet)
+    column = rw (← left-all n sheet) (from n 0 (omega arith))
+
+  -- an injector's intake, or 0
+  when-intake : (b : Bool) (r : Row) → rowWhen b r .intake ≡ pick b (r .intake) 0
+  unfolding rowWhen pick
+  when-intake true r = refl
+  when-intake false r = refl
+
+  pub sent-intakes : (t x : List ℕ) → n ≤ 1024 → 40 * n ≤ length sheet → ((i : ℕ) → getD sheet i 0 < 256) → length t ≡ 65536
+      → sound (wells n sheet) ≡ true → length x ≡ n → Added (sentTo (placed sheet n t) (wells n sheet)) (replicate n 0) x
+      → x ≡ intakes (rows (wells n sheet))
+  unfolding intakes rows Added rowOf
+  sent-intakes t x few room bytes long s e h =
+      column (λ w. rowWhen (sound (wells n sheet) && injector w) (rowOf (wells n sheet) w) .intake) 0 x e (λ q l.
+      h q ∙ rw (getD-replicate {A = ℕ} n q 0 0 l, s, sent-there n sheet t few room bytes long (sound-exactly (wells n sheet) .0 s) q l)
+      (omega (arith, when-intake (injector (wellAt q sheet)) (rowOf (wells n sheet) (wellAt q sheet)))))
+      ∙ sym (map-map (λ r. r .intake) (λ w. rowWhen (sound (wells n sheet) && injector w) (rowOf (wells n sheet) w)) (wells n sheet))
