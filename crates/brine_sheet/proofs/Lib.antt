@@ -2,3 +2,4 @@
 pub mod Sends
 pub mod Found
 pub mod Columns
+pub mod Alone
