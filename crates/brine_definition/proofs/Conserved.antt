@@ -122,7 +122,7 @@ conserved xs h =
     ∙ producers-bring ws (distinct ws ws (λ w m. m) (rising 0 xs) h) ws h
 
 -- no sheet's intakes total more than 100,000,000 for each record
-sheet-most : (n : ℕ) (sheet : List ℕ) → sum (intakes (rows (wells n sheet))) ≤ 100000000 * n
+pub sheet-most : (n : ℕ) (sheet : List ℕ) → sum (intakes (rows (wells n sheet))) ≤ 100000000 * n
 unfolding wells
 sheet-most n sheet = go (sound (wells n sheet)) refl
   where

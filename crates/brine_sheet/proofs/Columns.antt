@@ -5,7 +5,7 @@ use mathlib.Core.Bool.{Bool, true, false, _&&_}
 use mathlib.Core.List.{List, map, map-map}
 use Prim.Native.Nat.{ℕ, zero, suc, _+_, _*_, _<_, _≤_}
 use native.Mathlib.Omega.{arith}
-use lib.ListN.{length, getD, drop, replicate, drop-of-length-le, getD-replicate}
+use lib.ListN.{length, getD, drop, replicate, drop-of-length-le, length-replicate, getD-replicate}
 use lib.Seq.{drop-cons}
 use Rattle.definition.specs.Refusal.{pick}
 use Rattle.plan_definition.specs.declared.Well.{Well}
@@ -15,9 +15,11 @@ use Rattle.plan_definition.proofs.Places.{wellAt, left, left-all, left-step, le
 use Rattle.plan_places.specs.Places.{placed}
 use Rattle.brine_definition.specs.Page.{Row, intakeFrom, rowOf, rowWhen, sound, rows}
 use Rattle.brine_definition.specs.Statement.{intakes}
-use Rattle.brine_definition.proofs.Sound.{sound-exactly}
-use Rattle.brine_sheet.specs.Sent.{sentTo, Added}
-use Rattle.brine_sheet.proofs.Found.{sent-there}
+use Rattle.brine_definition.proofs.Sums.{pick-most}
+use Rattle.brine_definition.proofs.Sound.{sound-exactly, length-wells}
+use Rattle.brine_definition.proofs.Bounds.{intake-most}
+use Rattle.brine_sheet.specs.Sent.{sentTo, Added, Takes}
+use Rattle.brine_sheet.proofs.Found.{Given, sent-there}
 
 module _ (n : ℕ) (sheet : List ℕ) where
   module _ {A : Type 0} (f : Well → A) (d : A) (x : List A) (long : length x ≡ n) (each : (q : ℕ) → q < n → getD x q d ≡ f (wellAt q sheet)) where
@@ -31,18 +33,27 @@ module _ (n : ℕ) (sheet : List ℕ) where
     pub column : x ≡ map f (wells n sheet)
     column = rw (← left-all n sheet) (from n 0 (omega arith))
 
-  -- an injector's intake, or 0
-  when-intake : (b : Bool) (r : Row) → rowWhen b r .intake ≡ pick b (r .intake) 0
-  unfolding rowWhen pick
-  when-intake true r = refl
-  when-intake false r = refl
+-- an injector's intake, or 0
+when-intake : (b : Bool) (r : Row) → rowWhen b r .intake ≡ pick b (r .intake) 0
+unfolding rowWhen pick
+when-intake true r = refl
+when-intake false r = refl
 
-  pub sent-intakes : (t x : List ℕ) → n ≤ 1024 → 40 * n ≤ length sheet → ((i : ℕ) → getD sheet i 0 < 256) → length t ≡ 65536
-      → sound (wells n sheet) ≡ true → length x ≡ n → Added (sentTo (placed sheet n t) (wells n sheet)) (replicate n 0) x
+module _ {n : ℕ} {sheet t : List ℕ} (g : Given n sheet t) where
+  -- zeros can take what is sent: an intake is at most 100,000,000 kilograms a day for each record
+  pub sends-fit : Takes (sentTo (placed sheet n t) (wells n sheet)) (replicate n 0)
+  unfolding Takes
+  sends-fit q l =
+      let h : q < n = omega (arith, length-replicate {A = ℕ} n 0) in
+      let most = pick-most (injector (wellAt q sheet)) _ (100000000 * length (wells n sheet)) (λ e. intake-most (wells n sheet) (g .sound) (wellAt q sheet .number)) in
+      omega (arith, getD-replicate {A = ℕ} n q 0 0 h, sent-there g q h, most, length-wells n sheet, g .few)
+
+  -- and what they become are the page's intakes
+  pub sent-intakes : (x : List ℕ) → length x ≡ n → Added (sentTo (placed sheet n t) (wells n sheet)) (replicate n 0) x
       → x ≡ intakes (rows (wells n sheet))
   unfolding intakes rows Added rowOf
-  sent-intakes t x few room bytes long s e h =
-      column (λ w. rowWhen (sound (wells n sheet) && injector w) (rowOf (wells n sheet) w) .intake) 0 x e (λ q l.
-      h q ∙ rw (getD-replicate {A = ℕ} n q 0 0 l, s, sent-there n sheet t few room bytes long (sound-exactly (wells n sheet) .0 s) q l)
+  sent-intakes x e h =
+      column n sheet (λ w. rowWhen (sound (wells n sheet) && injector w) (rowOf (wells n sheet) w) .intake) 0 x e (λ q l.
+      h q ∙ rw (getD-replicate {A = ℕ} n q 0 0 l, sound-exactly (wells n sheet) .1 (g .sound), sent-there g q l)
       (omega (arith, when-intake (injector (wellAt q sheet)) (rowOf (wells n sheet) (wellAt q sheet)))))
       ∙ sym (map-map (λ r. r .intake) (λ w. rowWhen (sound (wells n sheet) && injector w) (rowOf (wells n sheet) w)) (wells n sheet))

@@ -43,86 +43,92 @@ pick-within true e x r = refl
 pick-within false true x r = refl
 pick-within false false x r = refl
 
-module _ (n : ℕ) (sheet t : List ℕ) (few : n ≤ 1024) (room : 40 * n ≤ length sheet) (bytes : (i : ℕ) → getD sheet i 0 < 256)
-    (long : length t ≡ 65536) (sound : Sound (wells n sheet))
-  where
-    -- a well's number is below 65,536
-    number-fits : (p : ℕ) → wellAt p sheet .number < 65536
-    unfolding wellOf two
-    number-fits p = omega (arith, byte 0 (omega arith), byte 1 (omega arith))
-      where
-        byte : (j : ℕ) → j < 40 → getD (take 40 (drop (40 * p) sheet)) j 0 < 256
-        byte j h = rw (getD-take 40 (drop (40 * p) sheet) j 0 h, getD-drop (40 * p) sheet j 0) (bytes (40 * p + j))
+-- a sound sheet's bytes, and a table for its places
+pub record Given (n : ℕ) (sheet t : List ℕ) : Type 0 where
+  pub few : n ≤ 1024
+  pub room : 40 * n ≤ length sheet
+  pub bytes : (i : ℕ) → getD sheet i 0 < 256
+  pub long : length t ≡ 65536
+  pub sound : Sound (wells n sheet)
 
-    -- wells at two places have two places
-    apart : (p j : ℕ) → p < j → wellAt p sheet .place < wellAt j sheet .place
-    unfolding wellOf
-    apart p j h = h
+module _ {n : ℕ} {sheet t : List ℕ} (g : Given n sheet t) where
+  -- a well's number is below 65,536
+  number-fits : (p : ℕ) → wellAt p sheet .number < 65536
+  unfolding wellOf two
+  number-fits p = omega (arith, byte 0 (omega arith), byte 1 (omega arith))
+    where
+      byte : (j : ℕ) → j < 40 → getD (take 40 (drop (40 * p) sheet)) j 0 < 256
+      byte j h = rw (getD-take 40 (drop (40 * p) sheet) j 0 h, getD-drop (40 * p) sheet j 0) (g .bytes (40 * p + j))
 
-    -- and no other well has it, so the table finds its place
-    pub found : (p : ℕ) → p < n → getD (placed sheet n t) (wellAt p sheet .number) 0 ≡ p
-    unfolding Sound KeepsRepeat
-    found p h =
-        rw (← reads p h) (placed-at sheet n t p h (omega arith) (rw (reads p h, long) (number-fits p))
-        (λ j g l e. sound (wellAt j sheet) (there j l) .repeat (wellAt p sheet) (there p h) (apart p j g) (sym (rw (reads j l, reads p h) at e))))
-      where
-        reads : (j : ℕ) → j < n → wellIn sheet j ≡ wellAt j sheet
-        reads j l = well-read sheet j (omega arith)
+  -- wells at two places have two places
+  apart : (p j : ℕ) → p < j → wellAt p sheet .place < wellAt j sheet .place
+  unfolding wellOf
+  apart p j h = h
 
-        there : (j : ℕ) → j < n → Among (wellAt j sheet) (wells n sheet)
-        there j l = wells-at n sheet (wellAt j sheet) .1 (j, l, refl)
+  -- and no other well has it, so the table finds its place
+  pub found : (p : ℕ) → p < n → getD (placed sheet n t) (wellAt p sheet .number) 0 ≡ p
+  unfolding Sound KeepsRepeat
+  found p h =
+      rw (← reads p h) (placed-at sheet n t p h (omega (arith, g .few)) (rw (reads p h, g .long) (number-fits p))
+      (λ j a l e. g .sound (wellAt j sheet) (there j l) .repeat (wellAt p sheet) (there p h) (apart p j a) (sym (rw (reads j l, reads p h) at e))))
+    where
+      reads : (j : ℕ) → j < n → wellIn sheet j ≡ wellAt j sheet
+      reads j l = well-read sheet j (omega (arith, g .room))
 
-    -- a link that a well uses names the injector at some place, and the table finds that
-    named : (w : Well) → Among w (wells n sheet) → (l : Link) → Among l (used w)
-        → (p : ℕ) × (p < n) × (wellAt p sheet .number ≡ l .injector) × (wellAt p sheet .kind ≡ 2) × (getD (placed sheet n t) (l .injector) 0 ≡ p)
-    unfolding Sound KeepsLinks NamesInjector
-    named w m l k =
-        let v = sound w m .links .0 l k in
-        let at = wells-at n sheet (v .0) .0 (v .1) in
-        let number : wellAt (at .0) sheet .number ≡ l .injector = rw (at .2) at (v .2) in
-        (at .0, at .1, number, rw (at .2) at (v .3), ap (λ (k : ℕ). getD (placed sheet n t) k 0) (sym number) ∙ found (at .0) (at .1))
+      there : (j : ℕ) → j < n → Among (wellAt j sheet) (wells n sheet)
+      there j l = wells-at n sheet (wellAt j sheet) .1 (j, l, refl)
 
-    -- so all links of producers lead to places of the sheet
-    pub all-named : AllNamed (placed sheet n t) n (wells n sheet)
-    unfolding AllNamed Named Sound KeepsLinkCount
-    all-named w m e = (sound w m .link-count .0 e .0, λ l k. let p = named w m l k in rw (p .4) (p .1))
+  -- a link that a well uses names the injector at some place, and the table finds that
+  named : (w : Well) → Among w (wells n sheet) → (l : Link) → Among l (used w)
+      → (p : ℕ) × (p < n) × (wellAt p sheet .number ≡ l .injector) × (wellAt p sheet .kind ≡ 2) × (getD (placed sheet n t) (l .injector) 0 ≡ p)
+  unfolding Sound KeepsLinks NamesInjector
+  named w m l k =
+      let v = g .sound w m .links .0 l k in
+      let at = wells-at n sheet (v .0) .0 (v .1) in
+      let number : wellAt (at .0) sheet .number ≡ l .injector = rw (at .2) at (v .2) in
+      (at .0, at .1, number, rw (at .2) at (v .3), ap (λ (k : ℕ). getD (placed sheet n t) k 0) (sym number) ∙ found (at .0) (at .1))
 
-    -- a link leads to a place exactly where it names the injector there
-    leads : (w : Well) → Among w (wells n sheet) → (l : Link) → Among l (used w) → (q : ℕ) → q < n
-        → eqb (getD (placed sheet n t) (l .injector) 0) q ≡ injector (wellAt q sheet) && eqb (l .injector) (wellAt q sheet .number)
-    unfolding injector
-    leads w m l k q h =
-        let p = named w m l k in
-        elim (ℕ-discrete (p .0) q) [
-          | yes e ↦
-              let kind : wellAt q sheet .kind ≡ 2 = rw e at (p .3) in
-              let number : wellAt q sheet .number ≡ l .injector = rw e at (p .2) in
-              rw (eq-eqb _ q (p .4 ∙ e), eq-eqb _ 2 kind, eq-eqb (l .injector) _ (sym number))
-          | no e ↦
-              let other : l .injector ≡ wellAt q sheet .number → ⊥ =
-              λ f. e (sym (p .4) ∙ ap (λ (k : ℕ). getD (placed sheet n t) k 0) f ∙ found q h) in
-              rw (ne-eqb _ q (λ f. e (sym (p .4) ∙ f)), ne-eqb (l .injector) _ other) (sym (and-false (injector (wellAt q sheet))))
-        ]
+  -- so all links of producers lead to places of the sheet
+  pub all-named : AllNamed (placed sheet n t) n (wells n sheet)
+  unfolding AllNamed Named Sound KeepsLinkCount
+  all-named w m e = (g .sound w m .link-count .0 e .0, λ l k. let p = named w m l k in rw (p .4) (p .1))
 
-    module _ (q : ℕ) (h : q < n) where
-      -- what such links bring to a place is what they bring to its injector
-      brings : (rate : ℕ) (ls : List Link) → ((l : Link) → Among l ls → (w : Well) × Among w (wells n sheet) × Among l (used w))
-          → broughtTo (placed sheet n t) rate ls q ≡ pick (injector (wellAt q sheet)) (brought rate ls (wellAt q sheet .number)) 0
-      unfolding broughtTo brought
-      brings rate [] u = sym (pick-zero (injector (wellAt q sheet)))
-      brings rate (l ∷ ls) u =
-          let w = u l here in
-          rw (leads (w .0) (w .1) l (w .2) q h, brings rate ls (λ m k. u m (later k)))
-          (pick-each (injector (wellAt q sheet)) (eqb (l .injector) (wellAt q sheet .number)) (rate * l .share) (brought rate ls (wellAt q sheet .number)))
+  -- a link leads to a place exactly where it names the injector there
+  leads : (w : Well) → Among w (wells n sheet) → (l : Link) → Among l (used w) → (q : ℕ) → q < n
+      → eqb (getD (placed sheet n t) (l .injector) 0) q ≡ injector (wellAt q sheet) && eqb (l .injector) (wellAt q sheet .number)
+  unfolding injector
+  leads w m l k q h =
+      let p = named w m l k in
+      elim (ℕ-discrete (p .0) q) [
+        | yes e ↦
+            let kind : wellAt q sheet .kind ≡ 2 = rw e at (p .3) in
+            let number : wellAt q sheet .number ≡ l .injector = rw e at (p .2) in
+            rw (eq-eqb _ q (p .4 ∙ e), eq-eqb _ 2 kind, eq-eqb (l .injector) _ (sym number))
+        | no e ↦
+            let other : l .injector ≡ wellAt q sheet .number → ⊥ =
+            λ f. e (sym (p .4) ∙ ap (λ (k : ℕ). getD (placed sheet n t) k 0) f ∙ found q h) in
+            rw (ne-eqb _ q (λ f. e (sym (p .4) ∙ f)), ne-eqb (l .injector) _ other) (sym (and-false (injector (wellAt q sheet))))
+      ]
 
-      -- and what the producers send there is its intake
-      sends : (vs : List Well) → ((w : Well) → Among w vs → Among w (wells n sheet))
-          → sentTo (placed sheet n t) vs q ≡ pick (injector (wellAt q sheet)) (intakeFrom vs (wellAt q sheet .number)) 0
-      unfolding sentTo intakeFrom
-      sends [] u = sym (pick-zero (injector (wellAt q sheet)))
-      sends (w ∷ vs) u =
-          rw (brings (w .rate) (used w) (λ l k. (w, u w here, k)), sends vs (λ v k. u v (later k)))
-          (pick-within (injector (wellAt q sheet)) (producer w) (brought (w .rate) (used w) (wellAt q sheet .number)) (intakeFrom vs (wellAt q sheet .number)))
+  module _ (q : ℕ) (h : q < n) where
+    -- what such links bring to a place is what they bring to its injector
+    brings : (rate : ℕ) (ls : List Link) → ((l : Link) → Among l ls → (w : Well) × Among w (wells n sheet) × Among l (used w))
+        → broughtTo (placed sheet n t) rate ls q ≡ pick (injector (wellAt q sheet)) (brought rate ls (wellAt q sheet .number)) 0
+    unfolding broughtTo brought
+    brings rate [] u = sym (pick-zero (injector (wellAt q sheet)))
+    brings rate (l ∷ ls) u =
+        let w = u l here in
+        rw (leads (w .0) (w .1) l (w .2) q h, brings rate ls (λ m k. u m (later k)))
+        (pick-each (injector (wellAt q sheet)) (eqb (l .injector) (wellAt q sheet .number)) (rate * l .share) (brought rate ls (wellAt q sheet .number)))
 
-      pub sent-there : sentTo (placed sheet n t) (wells n sheet) q ≡ pick (injector (wellAt q sheet)) (intakeFrom (wells n sheet) (wellAt q sheet .number)) 0
-      sent-there = sends (wells n sheet) (λ w m. m)
+    -- and what the producers send there is its intake
+    sends : (vs : List Well) → ((w : Well) → Among w vs → Among w (wells n sheet))
+        → sentTo (placed sheet n t) vs q ≡ pick (injector (wellAt q sheet)) (intakeFrom vs (wellAt q sheet .number)) 0
+    unfolding sentTo intakeFrom
+    sends [] u = sym (pick-zero (injector (wellAt q sheet)))
+    sends (w ∷ vs) u =
+        rw (brings (w .rate) (used w) (λ l k. (w, u w here, k)), sends vs (λ v k. u v (later k)))
+        (pick-within (injector (wellAt q sheet)) (producer w) (brought (w .rate) (used w) (wellAt q sheet .number)) (intakeFrom vs (wellAt q sheet .number)))
+
+    pub sent-there : sentTo (placed sheet n t) (wells n sheet) q ≡ pick (injector (wellAt q sheet)) (intakeFrom (wells n sheet) (wellAt q sheet .number)) 0
+    sent-there = sends (wells n sheet) (λ w m. m)

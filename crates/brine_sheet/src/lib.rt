@@ -1,19 +1,42 @@
 // The brine statement of one sheet (document 02, Q-3), of which a batch is made.
 ghost use mathlib.Core.Path.{_≡_};
-ghost use Prim.Native.Nat.{_*_, _≤_};
+ghost use mathlib.Core.Bool.{true};
 ghost use mathlib.Core.List.{[], _∷_};
-ghost use lib.ListN.{length};
-ghost use Rattle.definition.specs.Refusal.{firstOf};
-ghost use Rattle.brine_definition.specs.Statement.{brineRefusals};
+ghost use Prim.Native.Nat.{_*_, _≤_};
+ghost use lib.IntN.{pos};
+ghost use lib.ListN.{length, replicate};
 ghost use lib.Seq.{slice};
-ghost use Rattle.brine_sheet.specs.Sent.{Named, AllNamed, broughtTo, sentTo, Added, Takes};
+ghost use Rattle.definition.specs.Refusal.{pick, firstOf};
 ghost use Rattle.plan_definition.specs.Well.{wells};
+ghost use Rattle.plan_definition.specs.Rules.{injector};
+ghost use Rattle.brine_definition.specs.Count.{sum};
+ghost use Rattle.brine_definition.specs.Page.{spareOf, rowWhen, sound, rows};
+ghost use Rattle.brine_definition.specs.Statement.{intakes, spares, belowZero, statementOf, brineRefusals};
+ghost use Rattle.brine_sheet.specs.Sent.{Named, AllNamed, broughtTo, sentTo, Added, Takes};
+use brine_definition::KILOGRAMS;
+use brine_definition::Statement;
+use plan_definition::INJECTOR;
 use plan_definition::Link;
 use plan_definition::PRODUCER;
+use plan_definition::Well;
 use sheet_judge::DONE;
 
 // The refusal that the statement adds to the sheet's: a list shorter than the records.
 pub const LIST: u64 = 25;
+
+// Zeros in both lists.
+fn clear(intake: &mut [u64], spare: &mut [i64])
+    requires { ⌜ length (now spare) ≡ length (now intake) ⌝ }
+    ensures { λ _. ⌜ (now (intake .exit) ≡ replicate (length (now (intake .entry))) 0) × (now (spare .exit) ≡ replicate (length (now (intake .entry))) (pos 0)) ⌝ }
+{
+    let n = intake.len();
+    let mut i = 0;
+    while i < n {
+        intake[i] = 0;
+        spare[i] = 0;
+        i += 1;
+    }
+}
 
 // What links at a rate bring, added to the intakes at the places of the injectors that they name.
 fn send(rate: u64, links: [Link; 4], count: usize, places: &[u16; 65536], intake: &mut [u64])
@@ -45,6 +68,67 @@ fn send_all(sheet: &[u8], n: usize, places: &[u16; 65536], intake: &mut [u64])
         }
         i += 1;
     }
+}
+
+// 1 where a spare is below zero, else 0.
+fn below_zero(s: i64) -> u64
+    ensures { λ r. ⌜ r ≡ pick (belowZero s) 1 0 ⌝ }
+{
+    (s < 0) as u64
+}
+
+// What is spare of an injector's capacity at an intake, in kilograms a day; 0 for another well.
+fn spare_of(w: Well, intake: u64) -> i64
+    requires { ⌜ intake ≤ 102400000000 ⌝ }
+    ensures { λ r. ⌜ r ≡ rowWhen (injector w) (record { intake = intake; spare = spareOf (w .rate) intake }) .spare ⌝ }
+{
+    if w.kind != INJECTOR {
+        return 0;
+    }
+    let excess = (intake as i64) - ((KILOGRAMS * (w.rate as u64)) as i64);
+    -excess
+}
+
+// The spares of a sound sheet's records, whose intakes are there already, and its part of the answer.
+fn settle(sheet: &[u8], n: usize, intake: &[u64], spare: &mut [i64]) -> Statement
+    requires { ⌜ (40 * n ≤ length (now sheet)) × (length (now spare) ≡ n) × (sound (wells n (now sheet)) ≡ true) × (now intake ≡ intakes (rows (wells n (now sheet)))) × (sum (now intake) ≤ 102400000000) ⌝ }
+    ensures { λ r. ⌜ (r ≡ statementOf (wells n (now (sheet .entry)) ∷ [])) × (now (spare .exit) ≡ spares (rows (wells n (now (sheet .entry))))) ⌝ }
+{
+    let mut total: u64 = 0;
+    let mut overloaded: u64 = 0;
+    let mut i = 0;
+    while i < n {
+        let w = plan_record::read(sheet, i);
+        let a = intake[i];
+        let s = spare_of(w, a);
+        spare[i] = s;
+        total += a;
+        overloaded += below_zero(s);
+        i += 1;
+    }
+    Statement {
+        number: 0,
+        sound: 1,
+        faulted: 0,
+        intake: total,
+        overloaded,
+    }
+}
+
+// The figures of a sound sheet whose lists are zeros: first what its producers send, then what is spare.
+fn sound_sheet(
+    sheet: &[u8],
+    n: usize,
+    places: &mut [u16; 65536],
+    intake: &mut [u64],
+    spare: &mut [i64],
+) -> Statement
+    requires { ⌜ (n ≤ 1024) × (40 * n ≤ length (now sheet)) × (sound (wells n (now sheet)) ≡ true) × (now intake ≡ replicate n 0) × (length (now spare) ≡ n) ⌝ }
+    ensures { λ r. ⌜ (r ≡ statementOf (wells n (now (sheet .entry)) ∷ [])) × (now (intake .exit) ≡ intakes (rows (wells n (now (sheet .entry))))) × (now (spare .exit) ≡ spares (rows (wells n (now (sheet .entry))))) ⌝ }
+{
+    plan_places::put(sheet, n, places);
+    send_all(sheet, n, places, intake);
+    settle(sheet, n, intake, spare)
 }
 
 // The first refusal of a batch of one sheet, from its numbers alone.

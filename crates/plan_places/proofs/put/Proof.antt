@@ -39,7 +39,7 @@ loop-again c =
 returns : tie.Need-returns Inv-loop μ-loop
 returns c =
     let e : c .before .loop .i ≡ c .before .before .before .before .args .n = omega arith in
-    rw e at (c .before .loop .inv .1)
+    (rw e at (c .before .loop .inv .1), search needs)
 
 pub put-spec : {M : Type 1} → statement M
 put-spec =
