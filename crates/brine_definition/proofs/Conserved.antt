@@ -22,7 +22,7 @@ use Rattle.plan_definition.proofs.Faults.{Rising, rising}
 use Rattle.brine_definition.specs.Count.{sum}
 use Rattle.brine_definition.specs.Page.{Row, brought, intakeFrom, rowOf, rowWhen, sound, rows, produced}
 use Rattle.brine_definition.specs.Statement.{batch, page, intakes}
-use Rattle.brine_definition.proofs.Sums.{sum-append, sum-zeros, intakes-append}
+use Rattle.brine_definition.proofs.Sums.{sum-zeros, pick-most, page-intakes}
 use Rattle.brine_definition.proofs.Sound.{sound-exactly, faulted-intakes, length-wells}
 use Rattle.brine_definition.proofs.Bounds.{carried, produced-most}
 
@@ -121,22 +121,32 @@ conserved xs h =
     intakes-received ws (sound-exactly ws .1 h)
     ∙ producers-bring ws (distinct ws ws (λ w m. m) (rising 0 xs) h) ws h
 
--- no sheet's intakes total more than 100,000,000 for each record
-pub sheet-most : (n : ℕ) (sheet : List ℕ) → sum (intakes (rows (wells n sheet))) ≤ 100000000 * n
-unfolding wells
-sheet-most n sheet = go (sound (wells n sheet)) refl
+-- so of any sheet, of which a faulted one's total nothing
+pub sheet-total : (n : ℕ) (sheet : List ℕ)
+    → sum (intakes (rows (wells n sheet))) ≡ 1000 * pick (sound (wells n sheet)) (produced (wells n sheet)) 0
+unfolding wells pick
+sheet-total n sheet = go (sound (wells n sheet)) refl
   where
-    go : (b : Bool) → sound (wells n sheet) ≡ b → sum (intakes (rows (wells n sheet))) ≤ 100000000 * n
-    go true e =
-        let h = sound-exactly (wells n sheet) .0 e in
-        omega (arith, conserved (cut n sheet) h, produced-most (wells n sheet) h, length-wells n sheet)
-    go false e = rw (faulted-intakes (wells n sheet) e, sum-zeros (length (wells n sheet))) (omega arith)
+    go : (b : Bool) → sound (wells n sheet) ≡ b → sum (intakes (rows (wells n sheet))) ≡ 1000 * pick b (produced (wells n sheet)) 0
+    go true e = conserved (cut n sheet) (sound-exactly (wells n sheet) .0 e)
+    go false e = rw (faulted-intakes (wells n sheet) e) (sum-zeros (length (wells n sheet)))
+
+-- no sheet's total more than 100,000,000 for each record
+sheet-most : (n : ℕ) (sheet : List ℕ) → sum (intakes (rows (wells n sheet))) ≤ 100000000 * n
+sheet-most n sheet =
+    let ws = wells n sheet in
+    omega (
+      arith,
+      sheet-total n sheet,
+      length-wells n sheet,
+      pick-most (sound ws) (produced ws) (100000 * length ws) (λ e.
+          produced-most ws (sound-exactly ws .0 e)),
+    )
 
 -- and no batch's
 pub total-most : (counts sheets : List ℕ) → sum (intakes (page (batch counts sheets))) ≤ 100000000 * sum counts
-unfolding page batch sum intakes
+unfolding batch page intakes sum
 total-most [] sheets = omega arith
 total-most (n ∷ ns) sheets =
     let rest = drop (40 * n) sheets in
-    rw (intakes-append (rows (wells n sheets)) (page (batch ns rest)), sum-append (intakes (rows (wells n sheets))) (intakes (page (batch ns rest))))
-    (omega (arith, sheet-most n sheets, total-most ns rest))
+    omega (arith, page-intakes (wells n sheets) (batch ns rest), sheet-most n sheets, total-most ns rest)

@@ -3,3 +3,6 @@ pub mod Sums
 pub mod Sound
 pub mod Bounds
 pub mod Conserved
+pub mod Spare
+pub mod Outcomes
+pub mod Totals

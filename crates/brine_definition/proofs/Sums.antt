@@ -1,15 +1,17 @@
 -- Sums and counts of lists one after another, of a list of one value, and what bounds them.
 -- Assumes nothing.
 use mathlib.Core.Path.{_≡_, refl}
-use mathlib.Core.Bool.{Bool, true, false}
+use mathlib.Core.Bool.{Bool, true, false, not}
 use mathlib.Core.List.{List, [], _∷_, _++_, map, map-append}
 use Prim.Native.Nat.{ℕ, zero, suc, _+_, _≤_}
 use native.Mathlib.Omega.{arith}
+use lib.IntN.{ℤ}
 use lib.ListN.{length, getD, replicate, length-map}
 use Rattle.definition.specs.Refusal.{pick}
+use Rattle.plan_definition.specs.declared.Well.{Well}
 use Rattle.brine_definition.specs.Count.{sum, count}
-use Rattle.brine_definition.specs.Page.{Row}
-use Rattle.brine_definition.specs.Statement.{intakes, spares}
+use Rattle.brine_definition.specs.Page.{Row, rows}
+use Rattle.brine_definition.specs.Statement.{page, intakes, spares}
 
 -- of two lists, one after the other
 pub sum-append : (l m : List ℕ) → sum (l ++ m) ≡ sum l + sum m
@@ -67,3 +69,23 @@ module _ {A : Type 0} where
   unfolding count
   count-most f [] = omega arith
   count-most f (a ∷ l) = omega (arith, count-most f l, pick-most (f a) 1 1 (λ e. omega arith))
+
+  -- each element passes a test or fails it
+  pub count-not : (f : A → Bool) (l : List A) → count f l + count (λ a. not (f a)) l ≡ length l
+  unfolding count pick
+  count-not f [] = refl
+  count-not f (a ∷ l) = omega (arith, count-not f l, one (f a))
+    where
+      one : (b : Bool) → pick b 1 0 + pick (not b) 1 0 ≡ 1
+      one true = refl
+      one false = refl
+
+-- the figures of a page are those of its sheets
+module _ (ws : List Well) (wss : List (List Well)) where
+  pub page-intakes : sum (intakes (page (ws ∷ wss))) ≡ sum (intakes (rows ws)) + sum (intakes (page wss))
+  unfolding page
+  page-intakes = rw (intakes-append (rows ws) (page wss)) (sum-append (intakes (rows ws)) (intakes (page wss)))
+
+  pub page-spares : (f : ℤ → Bool) → count f (spares (page (ws ∷ wss))) ≡ count f (spares (rows ws)) + count f (spares (page wss))
+  unfolding page
+  page-spares f = rw (spares-append (rows ws) (page wss)) (count-append f (spares (rows ws)) (spares (page wss)))
