@@ -6,3 +6,4 @@ pub mod Conserved
 pub mod Spare
 pub mod Outcomes
 pub mod Totals
+pub mod Refused
