@@ -7,3 +7,5 @@ pub mod Spare
 pub mod Outcomes
 pub mod Totals
 pub mod Refused
+pub mod Rows
+pub mod Figures

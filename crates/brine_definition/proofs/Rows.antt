@@ -1,0 +1,110 @@
+-- Where a row stands: record i of sheet k has place (records of the sheets before) + i, in the page and in both lists.
+-- Assumes nothing.
+use mathlib.Core.Path.{_≡_, refl, _∙_}
+use mathlib.Core.Bool.{_&&_}
+use mathlib.Core.List.{List, [], _∷_, map}
+use Prim.Native.Nat.{ℕ, zero, suc, _+_, _*_, _<_}
+use native.Mathlib.Omega.{arith}
+use lib.IntN.{ℤ, pos}
+use lib.ListN.{length, getD, take, drop, List·getD-append, List·getD-map}
+use lib.Seq.{drop-drop, getD-append-add}
+use Rattle.sheet_definition.specs.Run.{cut}
+use Rattle.plan_definition.specs.declared.Well.{Well}
+use Rattle.plan_definition.specs.Well.{wellOf, wellsFrom, wells}
+use Rattle.plan_definition.specs.Rules.{injector}
+use Rattle.plan_definition.proofs.Places.{wellAt}
+use Rattle.brine_definition.specs.Count.{sum}
+use Rattle.brine_definition.specs.Page.{Row, rowOf, rowWhen, sound, rows}
+use Rattle.brine_definition.specs.Statement.{batch, page, intakes, spares, brineOutcome}
+use Rattle.brine_definition.proofs.Sums.{length-intakes, length-spares}
+use Rattle.brine_definition.proofs.Sound.{noRow, length-rows, length-wells, length-page}
+use Rattle.brine_definition.proofs.Outcomes.{given, done}
+
+-- the well at a place of a sheet
+from-place : (n p i : ℕ) (sheet : List ℕ) (d : Well) → i < n
+    → getD (wellsFrom p (cut n sheet)) i d ≡ wellOf (p + i) (take 40 (drop (40 * i) sheet))
+unfolding wellsFrom cut
+from-place zero p i sheet d h = absurd (omega arith)
+from-place (suc n) p zero sheet d h = let e : p + 0 ≡ p = omega arith in rw e
+from-place (suc n) p (suc i) sheet d h =
+    let e : p + suc i ≡ suc p + i = omega arith in
+    let f : 40 * suc i ≡ 40 + 40 * i = omega arith in
+    rw (from-place n (suc p) i (drop 40 sheet) d (omega arith), drop-drop (40 * i) 40 sheet, e, f)
+
+pub well-at : (n i : ℕ) (sheet : List ℕ) (d : Well) → i < n → getD (wells n sheet) i d ≡ wellAt i sheet
+unfolding wells
+well-at n i sheet d h = let e : 0 + i ≡ i = omega arith in rw e at (from-place n 0 i sheet d h)
+
+map-at : {A B : Type 0} (f : A → B) (l : List A) (i : ℕ) (a : A) (b : B) → i < length l → getD (map f l) i b ≡ f (getD l i a)
+map-at f [] i a b h = absurd (omega arith)
+map-at f (x ∷ l) zero a b h = refl
+map-at f (x ∷ l) (suc i) a b h = map-at f l i a b (omega arith)
+
+-- its row
+abbrev pub rowAt : (n i : ℕ) → (sheet : List ℕ) → Row
+rowAt n i sheet =
+    let ws : List Well = wells n sheet in
+    let w : Well = wellAt i sheet in
+    rowWhen (sound ws && injector w) (rowOf ws w)
+
+sheet-row : (n i : ℕ) (sheet : List ℕ) → i < n → getD (rows (wells n sheet)) i noRow ≡ rowAt n i sheet
+unfolding rows
+sheet-row n i sheet h =
+    let ws = wells n sheet in
+    map-at (λ w. rowWhen (sound ws && injector w) (rowOf ws w)) ws i (wellAt i sheet) noRow (omega (arith, length-wells n sheet))
+    ∙ rw (well-at n i sheet (wellAt i sheet) h)
+
+-- where sheet k begins: the records of those before it, and its bytes
+abbrev pub before : (counts : List ℕ) → (k : ℕ) → ℕ
+before counts k = sum (take k counts)
+
+abbrev pub sheetAt : (counts sheets : List ℕ) → (k : ℕ) → List ℕ
+sheetAt counts sheets k = drop (40 * before counts k) sheets
+
+pub row-at : (counts sheets : List ℕ) (k i : ℕ) → k < length counts → i < getD counts k 0
+    → getD (page (batch counts sheets)) (before counts k + i) noRow ≡ rowAt (getD counts k 0) i (sheetAt counts sheets k)
+unfolding page batch sum
+row-at [] sheets k i h l = absurd (omega arith)
+row-at (n ∷ ns) sheets zero i h l =
+    let rest = page (batch ns (drop (40 * n) sheets)) in
+    let e : 0 + i ≡ i = omega arith in
+    rw e
+    (List·getD-append (rows (wells n sheets)) rest noRow i (omega (arith, length-rows (wells n sheets), length-wells n sheets))
+    ∙ sheet-row n i sheets l)
+row-at (n ∷ ns) sheets (suc k) i h l =
+    let rest = drop (40 * n) sheets in
+    let e : n + before ns k + i ≡ length (rows (wells n sheets)) + (before ns k + i) =
+    omega (arith, length-rows (wells n sheets), length-wells n sheets) in
+    let f : 40 * (n + before ns k) ≡ 40 * n + 40 * before ns k = omega arith in
+    rw (e, f, ← drop-drop (40 * before ns k) (40 * n) sheets)
+    (getD-append-add (rows (wells n sheets)) (page (batch ns rest)) (before ns k + i) noRow ∙ row-at ns rest k i (omega arith) l)
+
+-- which lies within the records of the batch
+within : (counts : List ℕ) (k i : ℕ) → k < length counts → i < getD counts k 0 → before counts k + i < sum counts
+unfolding sum
+within [] k i h l = absurd (omega arith)
+within (n ∷ ns) zero i h l = omega arith
+within (n ∷ ns) (suc k) i h l = omega (arith, within ns k i (omega arith) l)
+
+-- so a done call leaves the row's figures there in both lists
+module _ (sheets counts intake : List ℕ) (spare : List ℤ) (e : given sheets counts intake spare ≡ 0) (k i : ℕ) (h : k < length counts)
+    (l : i < getD counts k 0) where
+  pub intake-at : getD (brineOutcome sheets counts intake spare .intake) (before counts k + i) 0
+      ≡ rowAt (getD counts k 0) i (sheetAt counts sheets k) .intake
+  unfolding intakes
+  intake-at =
+      let rs = page (batch counts sheets) in
+      rw (done sheets counts intake spare e, ← row-at counts sheets k i h l)
+      (List·getD-append (intakes rs) (drop (sum counts) intake) 0 (before counts k + i)
+      (omega (arith, length-intakes rs, length-page counts sheets, within counts k i h l))
+      ∙ List·getD-map (λ r. r .intake) rs (before counts k + i) noRow)
+
+  pub spare-at : getD (brineOutcome sheets counts intake spare .spare) (before counts k + i) (pos 0)
+      ≡ rowAt (getD counts k 0) i (sheetAt counts sheets k) .spare
+  unfolding spares
+  spare-at =
+      let rs = page (batch counts sheets) in
+      rw (done sheets counts intake spare e, ← row-at counts sheets k i h l)
+      (List·getD-append (spares rs) (drop (sum counts) spare) (pos 0) (before counts k + i)
+      (omega (arith, length-spares rs, length-page counts sheets, within counts k i h l))
+      ∙ List·getD-map (λ r. r .spare) rs (before counts k + i) noRow)
