@@ -9,3 +9,4 @@ pub mod Totals
 pub mod Refused
 pub mod Rows
 pub mod Figures
+pub mod Faulted
