@@ -10,3 +10,7 @@ pub mod Refused
 pub mod Rows
 pub mod Figures
 pub mod Faulted
+pub mod Determined
+pub mod Computed
+pub mod Examples
+pub mod Instances
