@@ -132,7 +132,7 @@ sheet-total n sheet = go (sound (wells n sheet)) refl
     go false e = rw (faulted-intakes (wells n sheet) e) (sum-zeros (length (wells n sheet)))
 
 -- no sheet's total more than 100,000,000 for each record
-sheet-most : (n : ℕ) (sheet : List ℕ) → sum (intakes (rows (wells n sheet))) ≤ 100000000 * n
+pub sheet-most : (n : ℕ) (sheet : List ℕ) → sum (intakes (rows (wells n sheet))) ≤ 100000000 * n
 sheet-most n sheet =
     let ws = wells n sheet in
     omega (

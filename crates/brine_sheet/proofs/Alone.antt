@@ -1,18 +1,68 @@
--- A batch of one sheet: its refusals are the sheet's own and that of short lists, and its page is the sheet's.
+-- A batch of one sheet: its refusals are the sheet's own and that of short lists, and where none is given the sheet's rows are its page.
 -- Assumes nothing.
-use mathlib.Core.Path.{_≡_}
-use mathlib.Core.Bool.{_||_, or-false}
-use mathlib.Core.List.{[], _∷_}
-use Prim.Native.Nat.{ℕ, _+_}
+use mathlib.Core.Path.{_≡_, refl, ap, _∙_}
+use mathlib.Core.Bool.{false, _||_, or-false}
+use mathlib.Core.List.{List, [], _∷_, _++_, append-nil}
+use Prim.Native.Nat.{ℕ, zero, suc, _+_, _*_, _≤_}
 use native.Mathlib.Omega.{arith}
 use lib.Dec.{ltb}
-use Rattle.definition.specs.Refusal.{LIST, pick, firstOf}
+use lib.IntN.{ℤ, pos}
+use lib.ListN.{length, drop, replicate}
+use Rattle.definition.specs.Refusal.{LIST, pick, firstOf, whenDone}
 use Rattle.sheet_definition.specs.Sheet.{sheetRefusal}
+use Rattle.plan_definition.specs.declared.Well.{Well}
+use Rattle.plan_definition.specs.declared.Verdict.{Verdict}
 use Rattle.plan_definition.specs.Some.{some}
-use Rattle.brine_definition.specs.Count.{sum}
-use Rattle.brine_definition.specs.Statement.{brineRefusals}
+use Rattle.plan_definition.specs.Some.Among.{here}
+use Rattle.plan_definition.specs.Well.{wells}
+use Rattle.plan_definition.specs.Check.{verdict}
+use Rattle.plan_definition.proofs.Verdicts.{room}
+use Rattle.brine_definition.specs.declared.Statement.{Statement}
+use Rattle.brine_definition.specs.Count.{sum, count}
+use Rattle.brine_definition.specs.Page.{saysSound, sound, rows}
+use Rattle.brine_definition.specs.Statement.{batch, page, intakes, spares, belowZero, statementOf, brineRefusals, brineOutcome}
+use Rattle.brine_definition.proofs.Sums.{sum-zeros}
+use Rattle.brine_definition.proofs.Sound.{faulted-intakes, faulted-spares}
+use Rattle.brine_definition.proofs.Outcomes.{given, done}
+use Rattle.brine_definition.proofs.Refused.{none-refused}
 
 pub alone : (sheet n intake spare : ℕ)
     → firstOf (brineRefusals sheet (n ∷ []) intake spare) ≡ firstOf (sheetRefusal n sheet ∷ (LIST, ltb intake n || ltb spare n) ∷ [])
 unfolding brineRefusals sheetRefusal some sum firstOf pick
 alone sheet n intake spare = let e : n + 0 ≡ n = omega arith in rw (e, or-false (ltb 1024 n))
+
+-- where the sheet has room for its records the check says whether it is sound
+pub says : (n : ℕ) (sheet : List ℕ) (v : Verdict) → n ≤ 1024 → 40 * n ≤ length sheet → v ≡ verdict sheet n → saysSound v ≡ sound (wells n sheet)
+unfolding verdict whenDone sound
+says n sheet v few fits e = ap saysSound (e ∙ rw (room n (length sheet) .1 (few, fits)))
+
+none-below : (n : ℕ) → count belowZero (replicate n (pos 0)) ≡ 0
+unfolding count belowZero pick
+none-below zero = refl
+none-below (suc n) = omega (arith, none-below n)
+
+-- of a faulted sheet there is nothing but that it is one
+pub faulted-alone : (ws : List Well) → sound ws ≡ false
+    → _≡_ {A = Statement} (record { number = 0; sound = 0; faulted = 1; intake = 0; overloaded = 0 }) (statementOf (ws ∷ []))
+unfolding statementOf page count pick
+faulted-alone ws e =
+    rw (e, append-nil (rows ws), faulted-intakes ws e, faulted-spares ws e, sum-zeros (length ws), none-below (length ws))
+
+module _ (n : ℕ) (sheet intake : List ℕ) (spare : List ℤ) (e : given sheet (n ∷ []) intake spare ≡ 0) where
+  -- nothing is refused: there is room in the buffer and in both lists
+  pub room-alone : (n ≤ 1024) × (40 * n ≤ length sheet) × (n ≤ length intake) × (n ≤ length spare)
+  unfolding sum
+  room-alone =
+      let h = none-refused (length sheet) (n ∷ []) (length intake) (length spare) .0 e .1 in
+      (h .0 .0 n here, omega (arith, h .0 .1), omega (arith, h .1 .0), omega (arith, h .1 .1))
+
+  -- and the sheet's rows stand in front
+  pub done-alone : brineOutcome sheet (n ∷ []) intake spare ≡ record {
+    answer = statementOf (wells n sheet ∷ []);
+    intake = intakes (rows (wells n sheet)) ++ drop n intake;
+    spare = spares (rows (wells n sheet)) ++ drop n spare;
+  }
+  unfolding batch page sum
+  done-alone =
+      let z : n + 0 ≡ n = omega arith in
+      done sheet (n ∷ []) intake spare e ∙ rw (append-nil (rows (wells n sheet)), z)

@@ -10,14 +10,15 @@ ghost use Rattle.definition.specs.Refusal.{pick, firstOf};
 ghost use Rattle.plan_definition.specs.Well.{wells};
 ghost use Rattle.plan_definition.specs.Rules.{injector};
 ghost use Rattle.brine_definition.specs.Count.{sum};
-ghost use Rattle.brine_definition.specs.Page.{spareOf, rowWhen, sound, rows};
-ghost use Rattle.brine_definition.specs.Statement.{intakes, spares, belowZero, statementOf, brineRefusals};
+ghost use Rattle.brine_definition.specs.Page.{spareOf, rowWhen, saysSound, sound, rows};
+ghost use Rattle.brine_definition.specs.Statement.{intakes, spares, belowZero, statementOf, brineRefusals, brineOutcome};
 ghost use Rattle.brine_sheet.specs.Sent.{Named, AllNamed, broughtTo, sentTo, Added, Takes};
 use brine_definition::KILOGRAMS;
 use brine_definition::Statement;
 use plan_definition::INJECTOR;
 use plan_definition::Link;
 use plan_definition::PRODUCER;
+use plan_definition::Verdict;
 use plan_definition::Well;
 use sheet_judge::DONE;
 
@@ -131,6 +132,48 @@ fn sound_sheet(
     settle(sheet, n, intake, spare)
 }
 
+// Whether the check of content found no fault.
+fn says_sound(v: Verdict) -> bool
+    ensures { λ r. ⌜ r ≡ saysSound v ⌝ }
+{
+    match v {
+        Verdict::Refused(_) => false,
+        Verdict::Sound => true,
+        Verdict::Fault(_, _) => false,
+    }
+}
+
+// A statement with no figures: of a refused call its number, of a faulted sheet that it is one.
+fn bare(number: u64, faulted: u64) -> Statement
+    ensures { λ r. ⌜ r ≡ record { number = number; sound = 0; faulted = faulted; intake = 0; overloaded = 0 } ⌝ }
+{
+    Statement {
+        number,
+        sound: 0,
+        faulted,
+        intake: 0,
+        overloaded: 0,
+    }
+}
+
+// The rows of a sheet, in lists as long as it has records, and its part of the answer.
+fn page(
+    sheet: &[u8],
+    n: usize,
+    places: &mut [u16; 65536],
+    intake: &mut [u64],
+    spare: &mut [i64],
+) -> Statement
+    requires { ⌜ (n ≤ 1024) × (40 * n ≤ length (now sheet)) × (length (now intake) ≡ n) × (length (now spare) ≡ n) ⌝ }
+    ensures { λ r. ⌜ (r ≡ statementOf (wells n (now (sheet .entry)) ∷ [])) × (now (intake .exit) ≡ intakes (rows (wells n (now (sheet .entry))))) × (now (spare .exit) ≡ spares (rows (wells n (now (sheet .entry))))) ⌝ }
+{
+    clear(intake, spare);
+    if says_sound(plan::check(sheet, n)) {
+        return sound_sheet(sheet, n, places, intake, spare);
+    }
+    bare(DONE, 1)
+}
+
 // The first refusal of a batch of one sheet, from its numbers alone.
 fn judged(sheet: usize, n: usize, intake: usize, spare: usize) -> u64
     ensures { λ r. ⌜ r ≡ firstOf (brineRefusals sheet (n ∷ []) intake spare) ⌝ }
@@ -146,4 +189,21 @@ fn judged(sheet: usize, n: usize, intake: usize, spare: usize) -> u64
         return LIST;
     }
     DONE
+}
+
+// The brine statement over a batch of this sheet alone. The table is for its own use: what it holds before doesn't matter.
+pub fn statement(
+    sheet: &[u8],
+    n: usize,
+    places: &mut [u16; 65536],
+    intake: &mut [u64],
+    spare: &mut [i64],
+) -> Statement
+    ensures { λ r. ⌜ record { answer = r; intake = now (intake .exit); spare = now (spare .exit) } ≡ brineOutcome (now (sheet .entry)) (n ∷ []) (now (intake .entry)) (now (spare .entry)) ⌝ }
+{
+    let number = judged(sheet.len(), n, intake.len(), spare.len());
+    if number != DONE {
+        return bare(number, 0);
+    }
+    page(sheet, n, places, &mut intake[..n], &mut spare[..n])
 }
