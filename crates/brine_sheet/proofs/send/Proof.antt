@@ -41,43 +41,50 @@ turn c = c .before .before
 abbrev start : tie.After-l Inv-loop μ-loop → tie.Start Inv-loop μ-loop
 start c = turn c .before .before
 
--- the next link leads to a place of the list
+-- the kilograms that the next link brings
+abbrev kilograms : tie.After-l Inv-loop μ-loop → ℕ
+kilograms c = start c .args .rate * getD (start c .args .t2) (turn c .loop .k) noLink .share
+
+-- it leads to a place of the list
 below : (c : tie.After-at Inv-loop μ-loop) → c .at .result < length (turn (c .before) .loop .intake)
 unfolding Named
 below c =
-    let k = turn (c .before) .loop .k in
-    let a = start (c .before) .args in
-    let there = length-slice 0 (a .count) (a .t2) (omega (arith, four (start (c .before)), start (c .before) .pre .0)) in
-    let named = start (c .before) .pre .1 _ (at-index (slice 0 (a .count) (a .t2)) k noLink (omega arith)) in
-    rw (c .at .ensures, turn (c .before) .loop .inv .1, ← getD-take (a .count) (a .t2) k noLink (omega arith)) named
+    let s = start (c .before) in
+    let l = turn (c .before) .loop in
+    let a = s .args in
+    let there = length-slice 0 (a .count) (a .t2) (omega (arith, four s, s .pre .0)) in
+    let named = s .pre .1 _ (at-index (slice 0 (a .count) (a .t2)) (l .k) noLink (omega arith)) in
+    rw (c .at .ensures, l .inv .1, ← getD-take (a .count) (a .t2) (l .k) noLink (omega arith)) named
 
 -- what is there, what the link brings and what the links after it bring are the whole
 step : (c : tie.After-at Inv-loop μ-loop) (q : ℕ) →
     let a = start (c .before) .args in
-    let k = turn (c .before) .loop .k in
-    getD (turn (c .before) .loop .intake) q 0
-    + (pick (eqb (c .at .result) q) (a .rate * getD (a .t2) k noLink .share) 0 + broughtTo (now (a .places)) (a .rate) (slice (suc k) (a .count) (a .t2)) q)
+    let l = turn (c .before) .loop in
+    getD (l .intake) q 0
+    + (pick (eqb (c .at .result) q) (kilograms (c .before)) 0 + broughtTo (now (a .places)) (a .rate) (slice (suc (l .k)) (a .count) (a .t2)) q)
     ≡ getD (now (a .intake)) q 0 + broughtTo (now (a .places)) (a .rate) (slice 0 (a .count) (a .t2)) q
 step c q =
-    let a = start (c .before) .args in
-    rw (c .at .ensures, ← brought-left (now (a .places)) (a .rate) (turn (c .before) .loop .k) (a .count) (a .t2) q (omega arith) (omega (arith, four (start (c .before)), start (c .before) .pre .0)))
-    (turn (c .before) .loop .inv .2 q)
+    let s = start (c .before) in
+    let l = turn (c .before) .loop in
+    let a = s .args in
+    let left = brought-left (now (a .places)) (a .rate) (l .k) (a .count) (a .t2) q (omega arith) (omega (arith, four s, s .pre .0)) in
+    rw (c .at .ensures, ← left) (l .inv .2 q)
 
 -- so no sum passes 64 bits
-fits : (c : tie.After-at Inv-loop μ-loop) → getD (turn (c .before) .loop .intake) (c .at .result) 0 + start (c .before) .args .rate * getD (start (c .before) .args .t2) (turn (c .before) .loop .k) noLink .share < 2 ^ 64
+fits : (c : tie.After-at Inv-loop μ-loop) → getD (turn (c .before) .loop .intake) (c .at .result) 0 + kilograms (c .before) < 2 ^ 64
 unfolding Takes pick
 fits c =
-    let whole = start (c .before) .pre .2 (c .at .result) (rw (← turn (c .before) .loop .inv .1) (below c)) in
-    omega (arith, whole, rw (eq-eqb (c .at .result) (c .at .result) refl) at (step c (c .at .result)))
+    let p = c .at .result in
+    let whole = start (c .before) .pre .2 p (rw (← turn (c .before) .loop .inv .1) (below c)) in
+    omega (arith, whole, rw (eq-eqb p p refl) at (step c p))
 
 loop-again : tie.Need-loop-again Inv-loop μ-loop
 loop-again c =
     let d = c .before .before in
-    let a = start (d .before) .args in (
+    let l = turn (d .before) .loop in (
       omega arith,
-      length-set (turn (d .before) .loop .intake) (d .at .result) _ ∙ turn (d .before) .loop .inv .1,
-      λ q. rw (add-one (turn (d .before) .loop .k), put-more (turn (d .before) .loop .intake) (d .at .result) (a .rate * getD (a .t2) (turn (d .before) .loop .k) noLink .share) q (below d))
-          (omega (arith, step d q)),
+      length-set (l .intake) (d .at .result) _ ∙ l .inv .1,
+      λ q. rw (add-one (l .k)) (omega (arith, step d q, put-more (l .intake) (d .at .result) (kilograms (d .before)) q (below d))),
     )
 
 returns : tie.Need-returns Inv-loop μ-loop
@@ -91,4 +98,7 @@ returns c =
 pub send-spec : {M : Type 1} → statement M
 send-spec =
     tie.close
-    (tie.spec Inv-loop μ-loop loop-holds (λ c. search needs) (λ c. search needs) (λ c κs. tt) (λ c. omega (arith, below c)) (λ c. below (c .before)) (λ c. search needs) (λ c. omega (arith, fits (c .before .before))) (λ c. omega (arith, fits (c .before .before))) (λ c. omega (arith, below (c .before .before))) (λ c. below (c .before .before)) (λ c. omega arith) (λ c. omega arith) loop-again (λ c. c .before .loop .inv .1) returns)
+    (tie.spec Inv-loop μ-loop loop-holds (λ c. search needs) (λ c. search needs) (λ c κs. tt) (λ c. omega (arith, below c)) (λ c. below (c .before))
+    (λ c. search needs) (λ c. omega (arith, fits (c .before .before))) (λ c. omega (arith, fits (c .before .before)))
+    (λ c. omega (arith, below (c .before .before))) (λ c. below (c .before .before)) (λ c. omega arith) (λ c. omega arith) loop-again
+    (λ c. c .before .loop .inv .1) returns)
