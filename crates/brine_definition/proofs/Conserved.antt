@@ -69,7 +69,7 @@ received-once j a {u} d (later {b = v} {l = vs} m) e k =
     rw (ne-eqb j (v .number) (λ q. d .0 u m (sym q ∙ sym e)), pick-zero (injector v), received-once j a (d .1) m e k)
     (omega arith)
 
-module _ (ws : List Well) (distinct : Distinct ws) where
+module _ (ws : List Well) (apart : Distinct ws) where
   -- links that name injectors bring them what they carry
   links-bring : (rate : ℕ) (ls : List Link) → ((l : Link) → Among l ls → NamesInjector ws (l .injector))
       → received ws (brought rate ls) ≡ rate * total ls
@@ -78,7 +78,7 @@ module _ (ws : List Well) (distinct : Distinct ws) where
   links-bring rate (l ∷ ls) h =
       let n = h l here in
       received-add ws (to (l .injector) (rate * l .share)) (brought rate ls)
-      ∙ omega (arith, received-once (l .injector) (rate * l .share) distinct (n .1) (n .2) (n .3), links-bring rate ls (λ m a. h m (later a)))
+      ∙ omega (arith, received-once (l .injector) (rate * l .share) apart (n .1) (n .2) (n .3), links-bring rate ls (λ m a. h m (later a)))
 
   -- and all producers' bring 1000 times their rates
   producers-bring : (ps : List Well) → ((w : Well) → Among w ps → Keeps ws w) → received ws (intakeFrom ps) ≡ 1000 * produced ps

@@ -30,6 +30,7 @@ use Rattle.brine_definition.proofs.Outcomes.{given}
 use Rattle.brine_definition.proofs.Totals.{each-counted}
 use Rattle.brine_definition.proofs.Refused.{none-refused}
 
+-- the answer's figures within 64 bits
 pub record AnswerFits (a : Statement) : Type 0 where
   pub sound : a .sound < 2 ^ 64
   pub faulted : a .faulted < 2 ^ 64

@@ -1,4 +1,4 @@
--- Sums and counts of lists one after another, of a list of one value, and what bounds them.
+-- Sums and counts: of lists one after another, of zeros, what bounds them, and of a page by its sheets.
 -- Assumes nothing.
 use mathlib.Core.Path.{_≡_, refl}
 use mathlib.Core.Bool.{Bool, true, false, not}
@@ -35,7 +35,7 @@ pub length-spares : (rs : List Row) → length (spares rs) ≡ length rs
 unfolding spares
 length-spares rs = length-map rs (λ r. r .spare)
 
--- what a test that passes lets in is no more than a bound, if it isn't there
+-- a number that counts only where a test passes is within a bound if it is so there
 pub pick-most : (b : Bool) (a m : ℕ) → (b ≡ true → a ≤ m) → pick b a 0 ≤ m
 unfolding pick
 pick-most true a m h = h refl
