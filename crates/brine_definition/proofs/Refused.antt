@@ -116,8 +116,8 @@ module _ (sheets counts intake : List ℕ) (spare : List ℤ) where
       × (length (brineOutcome sheets counts intake spare .spare) ≡ length spare)
   lengths-kept = go (given sheets counts intake spare) refl
     where
-      fronted : {A : Type 0} (p l : List A) → length p ≡ sum counts → sum counts ≤ length l → length (p ++ drop (sum counts) l) ≡ length l
-      fronted p l e h = length-front l p (sum counts) (e ∙ sym (length-take-le (sum counts) l h))
+      same-length : {A : Type 0} (p l : List A) → length p ≡ sum counts → sum counts ≤ length l → length (p ++ drop (sum counts) l) ≡ length l
+      same-length p l e h = length-front l p (sum counts) (e ∙ sym (length-take-le (sum counts) l h))
 
       go : (k : ℕ) → given sheets counts intake spare ≡ k → (length (brineOutcome sheets counts intake spare .intake) ≡ length intake)
           × (length (brineOutcome sheets counts intake spare .spare) ≡ length spare)
@@ -125,7 +125,7 @@ module _ (sheets counts intake : List ℕ) (spare : List ℤ) where
           let long = none-refused (length sheets) counts (length intake) (length spare) .0 e .1 .1 in
           let rs = page (batch counts sheets) in
           rw (done sheets counts intake spare e) (
-            fronted (intakes rs) intake (length-intakes rs ∙ length-page counts sheets) (long .0),
-            fronted (spares rs) spare (length-spares rs ∙ length-page counts sheets) (long .1),
+            same-length (intakes rs) intake (length-intakes rs ∙ length-page counts sheets) (long .0),
+            same-length (spares rs) spare (length-spares rs ∙ length-page counts sheets) (long .1),
           )
       go (suc k) e = rw (refused sheets counts intake spare k e) (refl, refl)

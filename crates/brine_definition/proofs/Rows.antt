@@ -2,11 +2,11 @@
 -- Assumes nothing.
 use mathlib.Core.Path.{_≡_, refl, _∙_}
 use mathlib.Core.Bool.{_&&_}
-use mathlib.Core.List.{List, [], _∷_, map}
+use mathlib.Core.List.{List, [], _∷_, _++_, map}
 use Prim.Native.Nat.{ℕ, zero, suc, _+_, _*_, _<_}
 use native.Mathlib.Omega.{arith}
 use lib.IntN.{ℤ, pos}
-use lib.ListN.{length, getD, take, drop, List·getD-append, List·getD-map}
+use lib.ListN.{length, getD, take, drop, length-map, List·getD-append, List·getD-map}
 use lib.Seq.{drop-drop, getD-append-add}
 use Rattle.sheet_definition.specs.Run.{cut}
 use Rattle.plan_definition.specs.declared.Well.{Well}
@@ -16,7 +16,6 @@ use Rattle.plan_definition.proofs.Places.{wellAt}
 use Rattle.brine_definition.specs.Count.{sum}
 use Rattle.brine_definition.specs.Page.{Row, rowOf, rowWhen, sound, rows}
 use Rattle.brine_definition.specs.Statement.{batch, page, intakes, spares, brineOutcome}
-use Rattle.brine_definition.proofs.Sums.{length-intakes, length-spares}
 use Rattle.brine_definition.proofs.Sound.{noRow, length-rows, length-wells, length-page}
 use Rattle.brine_definition.proofs.Outcomes.{given, done}
 
@@ -87,24 +86,25 @@ within (n ∷ ns) zero i h l = omega arith
 within (n ∷ ns) (suc k) i h l = omega (arith, within ns k i (omega arith) l)
 
 -- so a done call leaves the row's figures there in both lists
+figure-at : {B : Type 0} (f : Row → B) (rs : List Row) (rest : List B) (p : ℕ) → p < length rs
+    → getD (map f rs ++ rest) p (f noRow) ≡ f (getD rs p noRow)
+figure-at f rs rest p h = List·getD-append (map f rs) rest (f noRow) p (omega (arith, length-map rs f)) ∙ List·getD-map f rs p noRow
+
 module _ (sheets counts intake : List ℕ) (spare : List ℤ) (e : given sheets counts intake spare ≡ 0) (k i : ℕ) (h : k < length counts)
     (l : i < getD counts k 0) where
+  in-page : before counts k + i < length (page (batch counts sheets))
+  in-page = omega (arith, length-page counts sheets, within counts k i h l)
+
   pub intake-at : getD (brineOutcome sheets counts intake spare .intake) (before counts k + i) 0
       ≡ rowAt (getD counts k 0) i (sheetAt counts sheets k) .intake
   unfolding intakes
   intake-at =
-      let rs = page (batch counts sheets) in
       rw (done sheets counts intake spare e, ← row-at counts sheets k i h l)
-      (List·getD-append (intakes rs) (drop (sum counts) intake) 0 (before counts k + i)
-      (omega (arith, length-intakes rs, length-page counts sheets, within counts k i h l))
-      ∙ List·getD-map (λ r. r .intake) rs (before counts k + i) noRow)
+      (figure-at (λ r. r .intake) (page (batch counts sheets)) (drop (sum counts) intake) (before counts k + i) in-page)
 
   pub spare-at : getD (brineOutcome sheets counts intake spare .spare) (before counts k + i) (pos 0)
       ≡ rowAt (getD counts k 0) i (sheetAt counts sheets k) .spare
   unfolding spares
   spare-at =
-      let rs = page (batch counts sheets) in
       rw (done sheets counts intake spare e, ← row-at counts sheets k i h l)
-      (List·getD-append (spares rs) (drop (sum counts) spare) (pos 0) (before counts k + i)
-      (omega (arith, length-spares rs, length-page counts sheets, within counts k i h l))
-      ∙ List·getD-map (λ r. r .spare) rs (before counts k + i) noRow)
+      (figure-at (λ r. r .spare) (page (batch counts sheets)) (drop (sum counts) spare) (before counts k + i) in-page)
