@@ -22,7 +22,7 @@ use Rattle.plan_definition.proofs.Faults.{Rising, rising}
 use Rattle.brine_definition.specs.Count.{sum}
 use Rattle.brine_definition.specs.Page.{Row, brought, intakeFrom, rowOf, rowWhen, sound, rows, produced}
 use Rattle.brine_definition.specs.Statement.{batch, page, intakes}
-use Rattle.brine_definition.proofs.Sums.{sum-zeros, pick-most, page-intakes}
+use Rattle.brine_definition.proofs.Sums.{pick-zero, sum-zeros, pick-most, page-intakes}
 use Rattle.brine_definition.proofs.Sound.{sound-exactly, faulted-intakes, length-wells}
 use Rattle.brine_definition.proofs.Bounds.{carried, produced-most}
 
@@ -42,11 +42,6 @@ received-add [] f g = refl
 received-add (v ∷ vs) f g = omega (arith, pick-add (injector v) (f (v .number)) (g (v .number)), received-add vs f g)
 
 -- where none of them has the number, nothing is received
-pick-zero : (b : Bool) → pick b 0 0 ≡ 0
-unfolding pick
-pick-zero true = refl
-pick-zero false = refl
-
 received-none : (vs : List Well) (f : ℕ → ℕ) → ((v : Well) → Among v vs → f (v .number) ≡ 0) → received vs f ≡ 0
 received-none [] f h = refl
 received-none (v ∷ vs) f h = rw (h v here, pick-zero (injector v), received-none vs f (λ u m. h u (later m)))
@@ -100,7 +95,7 @@ distinct all (w ∷ ws) i r h =
     (λ v m e. h v (i v (later m)) .repeat w (i w here) (r .0 v m) e, distinct all ws (λ v m. i v (later m)) (r .1) h)
 
 -- the intakes of a sound sheet are what its injectors receive
-when-intake : (b : Bool) (r : Row) → rowWhen b r .intake ≡ pick b (r .intake) 0
+pub when-intake : (b : Bool) (r : Row) → rowWhen b r .intake ≡ pick b (r .intake) 0
 unfolding rowWhen pick
 when-intake true r = refl
 when-intake false r = refl

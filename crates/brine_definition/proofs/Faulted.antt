@@ -23,7 +23,7 @@ pub record OneMore (more less : Statement) : Type 0 where
   pub intake : more .intake ≡ less .intake
   pub overloaded : more .overloaded ≡ less .overloaded
 
-none-below : (n : ℕ) → count belowZero (replicate n (pos 0)) ≡ 0
+pub none-below : (n : ℕ) → count belowZero (replicate n (pos 0)) ≡ 0
 unfolding count belowZero pick
 none-below zero = refl
 none-below (suc n) = omega (arith, none-below n)

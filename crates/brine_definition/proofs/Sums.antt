@@ -41,6 +41,12 @@ unfolding pick
 pick-most true a m h = h refl
 pick-most false a m h = omega arith
 
+-- nothing is nothing, let in or not
+pub pick-zero : (b : Bool) → pick b 0 0 ≡ 0
+unfolding pick
+pick-zero true = refl
+pick-zero false = refl
+
 -- zeros add up to nothing
 pub sum-zeros : (n : ℕ) → sum (replicate n 0) ≡ 0
 unfolding sum

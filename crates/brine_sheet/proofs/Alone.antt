@@ -1,13 +1,13 @@
 -- A batch of one sheet: its refusals are the sheet's own and that of short lists, and where none is given the sheet's rows are its page.
 -- Assumes nothing.
-use mathlib.Core.Path.{_≡_, refl, ap, _∙_}
+use mathlib.Core.Path.{_≡_, ap, _∙_}
 use mathlib.Core.Bool.{false, _||_, or-false}
 use mathlib.Core.List.{List, [], _∷_, _++_, append-nil}
-use Prim.Native.Nat.{ℕ, zero, suc, _+_, _*_, _≤_}
+use Prim.Native.Nat.{ℕ, _+_, _*_, _≤_}
 use native.Mathlib.Omega.{arith}
 use lib.Dec.{ltb}
-use lib.IntN.{ℤ, pos}
-use lib.ListN.{length, drop, replicate}
+use lib.IntN.{ℤ}
+use lib.ListN.{length, drop}
 use Rattle.definition.specs.Refusal.{LIST, pick, firstOf, whenDone}
 use Rattle.sheet_definition.specs.Sheet.{sheetRefusal}
 use Rattle.plan_definition.specs.declared.Well.{Well}
@@ -20,9 +20,10 @@ use Rattle.plan_definition.proofs.Verdicts.{room}
 use Rattle.brine_definition.specs.declared.Statement.{Statement}
 use Rattle.brine_definition.specs.Count.{sum, count}
 use Rattle.brine_definition.specs.Page.{saysSound, sound, rows}
-use Rattle.brine_definition.specs.Statement.{batch, page, intakes, spares, belowZero, statementOf, brineRefusals, brineOutcome}
+use Rattle.brine_definition.specs.Statement.{batch, page, intakes, spares, statementOf, brineRefusals, brineOutcome}
 use Rattle.brine_definition.proofs.Sums.{sum-zeros}
 use Rattle.brine_definition.proofs.Sound.{faulted-intakes, faulted-spares}
+use Rattle.brine_definition.proofs.Faulted.{none-below}
 use Rattle.brine_definition.proofs.Outcomes.{given, done}
 use Rattle.brine_definition.proofs.Refused.{none-refused}
 
@@ -35,11 +36,6 @@ alone sheet n intake spare = let e : n + 0 ≡ n = omega arith in rw (e, or-fals
 pub says : (n : ℕ) (sheet : List ℕ) (v : Verdict) → n ≤ 1024 → 40 * n ≤ length sheet → v ≡ verdict sheet n → saysSound v ≡ sound (wells n sheet)
 unfolding verdict whenDone sound
 says n sheet v few fits e = ap saysSound (e ∙ rw (room n (length sheet) .1 (few, fits)))
-
-none-below : (n : ℕ) → count belowZero (replicate n (pos 0)) ≡ 0
-unfolding count belowZero pick
-none-below zero = refl
-none-below (suc n) = omega (arith, none-below n)
 
 -- of a faulted sheet there is nothing but that it is one
 pub faulted-alone : (ws : List Well) → sound ws ≡ false

@@ -1,23 +1,23 @@
 -- A list that has a well's figure at its place is the column of these figures; and the intakes that were sent are the page's.
 -- Assumes nothing.
-use mathlib.Core.Path.{_≡_, refl, sym, _∙_}
-use mathlib.Core.Bool.{Bool, true, false, _&&_}
+use mathlib.Core.Path.{_≡_, sym, _∙_}
+use mathlib.Core.Bool.{_&&_}
 use mathlib.Core.List.{List, map, map-map}
-use Prim.Native.Nat.{ℕ, zero, suc, _+_, _*_, _<_, _≤_}
+use Prim.Native.Nat.{ℕ, zero, suc, _+_, _*_, _<_}
 use native.Mathlib.Omega.{arith}
 use lib.ListN.{length, getD, drop, replicate, drop-of-length-le, length-replicate, getD-replicate}
 use lib.Seq.{drop-cons}
-use Rattle.definition.specs.Refusal.{pick}
 use Rattle.plan_definition.specs.declared.Well.{Well}
 use Rattle.plan_definition.specs.Well.{wells}
 use Rattle.plan_definition.specs.Rules.{injector}
 use Rattle.plan_definition.proofs.Places.{wellAt, left, left-all, left-step, left-none}
 use Rattle.plan_places.specs.Places.{placed}
-use Rattle.brine_definition.specs.Page.{Row, intakeFrom, rowOf, rowWhen, sound, rows}
+use Rattle.brine_definition.specs.Page.{rowOf, rowWhen, sound, rows}
 use Rattle.brine_definition.specs.Statement.{intakes}
 use Rattle.brine_definition.proofs.Sums.{pick-most}
 use Rattle.brine_definition.proofs.Sound.{sound-exactly, length-wells}
 use Rattle.brine_definition.proofs.Bounds.{intake-most}
+use Rattle.brine_definition.proofs.Conserved.{when-intake}
 use Rattle.brine_sheet.specs.Sent.{sentTo, Added, Takes}
 use Rattle.brine_sheet.proofs.Found.{Given, sent-there}
 
@@ -32,12 +32,6 @@ module _ (n : ℕ) (sheet : List ℕ) where
 
     pub column : x ≡ map f (wells n sheet)
     column = rw (← left-all n sheet) (from n 0 (omega arith))
-
--- an injector's intake, or 0
-when-intake : (b : Bool) (r : Row) → rowWhen b r .intake ≡ pick b (r .intake) 0
-unfolding rowWhen pick
-when-intake true r = refl
-when-intake false r = refl
 
 module _ {n : ℕ} {sheet t : List ℕ} (g : Given n sheet t) where
   -- zeros can take what is sent: an intake is at most 100,000,000 kilograms a day for each record

@@ -3,10 +3,10 @@
 use mathlib.Core.Path.{_≡_, refl, sym, ap, _∙_}
 use mathlib.Core.Bool.{Bool, true, false, _&&_, and-false}
 use mathlib.Core.List.{List, [], _∷_}
-use Prim.Native.Nat.{ℕ, suc, _+_, _*_, _<_, _≤_}
+use Prim.Native.Nat.{ℕ, _+_, _*_, _<_, _≤_}
 use native.Mathlib.Decide.{ℕ-discrete}
 use native.Mathlib.Omega.{arith}
-use borrow.Author.Tests.{eq-eqb, ne-eqb, eqb-true, eqb-false}
+use borrow.Author.Tests.{eq-eqb, ne-eqb}
 use lib.Dec.{eqb}
 use lib.ListN.{length, getD, take, drop}
 use lib.Seq.{getD-take, getD-drop}
@@ -24,12 +24,8 @@ use Rattle.plan_record.proofs.Total.{well-read}
 use Rattle.plan_places.specs.Places.{placed}
 use Rattle.plan_places.proofs.Places.{placed-at}
 use Rattle.brine_definition.specs.Page.{brought, intakeFrom}
+use Rattle.brine_definition.proofs.Sums.{pick-zero}
 use Rattle.brine_sheet.specs.Sent.{Named, AllNamed, broughtTo, sentTo}
-
-pick-zero : (b : Bool) → pick b 0 0 ≡ 0
-unfolding pick
-pick-zero true = refl
-pick-zero false = refl
 
 -- a test that decides each part of a sum decides the sum
 pick-each : (b e : Bool) (x r : ℕ) → pick (b && e) x 0 + pick b r 0 ≡ pick b (pick e x 0 + r) 0

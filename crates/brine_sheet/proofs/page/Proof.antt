@@ -6,8 +6,7 @@ use borrow.Author.Needs.{needs}
 use lib.ListN.{length, length-replicate, replicate}
 use lib.IntN.{pos}
 use Rattle.plan_definition.specs.Well.{wells}
-use Rattle.brine_definition.specs.Page.{sound, rows}
-use Rattle.brine_definition.specs.Statement.{intakes, spares}
+use Rattle.brine_definition.specs.Page.{sound}
 use Rattle.brine_definition.proofs.Sound.{faulted-intakes, faulted-spares, length-wells}
 use Rattle.brine_sheet.proofs.Alone.{says, faulted-alone}
 use Rattle.brine_sheet.proofs.page.Statement.{statement}

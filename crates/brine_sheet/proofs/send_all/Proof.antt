@@ -1,6 +1,6 @@
 -- `brine_sheet::send_all` meets its contract. The loop's invariant: what is there and what the wells left send are the whole.
 -- Assumes nothing.
-use mathlib.Core.Path.{_≡_, refl, sym, _∙_}
+use mathlib.Core.Path.{_≡_, refl, _∙_}
 use mathlib.Core.Logic._⊎_.{inl, inr}
 use mathlib.Core.List.{_∷_}
 use Prim.Native.Nat.{ℕ, suc, _+_, _-_, _≤_}

@@ -6,7 +6,6 @@ use denote.Ref.{now}
 use borrow.Author.Needs.{needs}
 use lib.ListN.{length, length-replicate}
 use Rattle.plan_definition.specs.Well.{wells}
-use Rattle.plan_places.specs.Places.{placed}
 use Rattle.brine_definition.specs.Page.{rows}
 use Rattle.brine_definition.specs.Statement.{intakes}
 use Rattle.brine_definition.proofs.Sound.{sound-exactly}
