@@ -1,2 +1,3 @@
 -- Laws that several of this crate's proofs use.
 pub mod Counts
+pub mod Filled
