@@ -1,3 +1,4 @@
 -- Laws that several of this crate's proofs use.
 pub mod Counts
 pub mod Filled
+pub mod Batch
