@@ -2,3 +2,4 @@
 pub mod Counts
 pub mod Filled
 pub mod Batch
+pub mod Totals
