@@ -3,3 +3,4 @@ pub mod Counts
 pub mod Filled
 pub mod Batch
 pub mod Totals
+pub mod Upto
