@@ -83,3 +83,25 @@ fn sheet_after_sheet(
         overloaded,
     }
 }
+
+// The page and the totals of a batch; a refused call writes nothing.
+pub fn statement(
+    sheets: &[u8],
+    counts: &[usize],
+    intake: &mut [u64],
+    spare: &mut [i64],
+) -> Statement
+    ensures { λ r. ⌜ record { answer = r; intake = now (intake .exit); spare = now (spare .exit) } ≡ brineOutcome (now (sheets .entry)) (now (counts .entry)) (now (intake .entry)) (now (spare .entry)) ⌝ }
+{
+    let number = judge(sheets.len(), counts, intake.len(), spare.len());
+    if number != sheet_judge::DONE {
+        return Statement {
+            number,
+            sound: 0,
+            faulted: 0,
+            intake: 0,
+            overloaded: 0,
+        };
+    }
+    sheet_after_sheet(sheets, counts, intake, spare)
+}
