@@ -6,6 +6,8 @@ ghost use Rattle.hash_definition.specs.Calls.{digestOutcome, startOutcome, feed
 ghost use Rattle.hash_definition.specs.Lent.{lentStartOutcome, lentFeedOutcome, lentFinishOutcome};
 ghost use Rattle.sheet_definition.specs.SheetCalls.{buildOutcome, changeOutcome, appendOutcome, dropOutcome};
 ghost use Rattle.plan_definition.specs.Check.{verdict, answerOf};
+ghost use Rattle.brine_definition.specs.Statement.{brineOutcome};
+use brine_definition::Statement;
 use hash_definition::Kept;
 use plan_definition::ContentAnswer;
 use sheet_definition::Answer;
@@ -141,4 +143,17 @@ pub extern "C" fn luffa_plan_check(sheet: &[u8], n: usize) -> ContentAnswer
     ensures { λ r. ⌜ r ≡ answerOf (verdict (now (sheet .entry)) n) ⌝ }
 {
     plan::answer(plan::check(sheet, n))
+}
+
+// The brine statement over a batch of sheets.
+#[no_mangle]
+pub extern "C" fn luffa_plan_brine(
+    sheets: &[u8],
+    counts: &[usize],
+    intake: &mut [u64],
+    spare: &mut [i64],
+) -> Statement
+    ensures { λ r. ⌜ record { answer = r; intake = now (intake .exit); spare = now (spare .exit) } ≡ brineOutcome (now (sheets .entry)) (now (counts .entry)) (now (intake .entry)) (now (spare .entry)) ⌝ }
+{
+    brine::statement(sheets, counts, intake, spare)
 }
