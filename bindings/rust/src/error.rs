@@ -48,6 +48,11 @@ pub enum Error {
         /// The rounds of Luffa in which that was found out.
         rounds: u64,
     },
+    /// 13: a batch of more than 64 sheets.
+    Batch,
+    /// 25: a list has fewer places than the batch has records.
+    /// [`plan::brine_into`](crate::plan::brine_into) alone gives it.
+    List,
 }
 
 impl Error {
@@ -65,6 +70,8 @@ impl Error {
             Error::Size => 9,
             Error::Claim => 10,
             Error::Stale { .. } => 11,
+            Error::Batch => 13,
+            Error::List => 25,
         }
     }
 
@@ -85,6 +92,8 @@ impl Error {
             Error::Size,
             Error::Claim,
             Error::Stale { rounds },
+            Error::Batch,
+            Error::List,
         ];
         match all.into_iter().find(|e| u64::from(e.number()) == number) {
             Some(refusal) => Err(refusal),
@@ -108,6 +117,8 @@ impl fmt::Display for Error {
             Error::Size => "the new record isn't 40 bytes",
             Error::Claim => "the claimed digest has another length",
             Error::Stale { .. } => "the sheet isn't the one whose digest is claimed",
+            Error::Batch => "a batch is at most 64 sheets",
+            Error::List => "a list has fewer places than the batch has records",
         })
     }
 }

@@ -25,6 +25,16 @@ pub struct ContentAnswer {
     pub place: u64,
 }
 
+/// struct luffa_brine_answer.
+#[repr(C)]
+pub struct BrineAnswer {
+    pub number: u64,
+    pub sound: u64,
+    pub faulted: u64,
+    pub intake: u64,
+    pub overloaded: u64,
+}
+
 // SAFETY: these are luffa.h's declarations, with size_t as usize.
 #[link(name = "luffa", kind = "static")]
 unsafe extern "C" {
@@ -90,6 +100,16 @@ unsafe extern "C" {
         out_len: usize,
     ) -> Answer;
     fn luffa_plan_check(sheet: *const u8, sheet_len: usize, n: usize) -> ContentAnswer;
+    fn luffa_plan_brine(
+        sheets: *const u8,
+        sheets_len: usize,
+        counts: *const usize,
+        counts_len: usize,
+        intake: *mut u64,
+        intake_len: usize,
+        spare: *mut i64,
+        spare_len: usize,
+    ) -> BrineAnswer;
 }
 
 pub fn digest(code: usize, message: &[u8], out: &mut [u8]) -> Result<(), Error> {
@@ -223,4 +243,26 @@ pub fn drop_last(lent: &mut Lent, claim: &[u8], out: &mut [u8]) -> Answer {
 pub fn plan_check(sheet: &[u8], n: usize) -> ContentAnswer {
     // SAFETY: `sheet` is read within its length, and is the one buffer lent.
     unsafe { luffa_plan_check(sheet.as_ptr(), sheet.len(), n) }
+}
+
+pub fn plan_brine(
+    sheets: &[u8],
+    counts: &[usize],
+    intake: &mut [u64],
+    spare: &mut [i64],
+) -> BrineAnswer {
+    // SAFETY: `sheets` and `counts` are read, `intake` and `spare` are written within their lengths,
+    // all but that of sheets in elements; those that are written are distinct borrows from all others.
+    unsafe {
+        luffa_plan_brine(
+            sheets.as_ptr(),
+            sheets.len(),
+            counts.as_ptr(),
+            counts.len(),
+            intake.as_mut_ptr(),
+            intake.len(),
+            spare.as_mut_ptr(),
+            spare.len(),
+        )
+    }
 }

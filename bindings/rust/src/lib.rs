@@ -28,7 +28,8 @@
 //! ```
 //!
 //! What the records mean to the balancer is in [`plan`]: a [`Well`](plan::Well) has the fields of a
-//! record, and [`Sheet::check`] says whether the wells of a sheet are sound.
+//! record, [`Sheet::check`] says whether the wells of a sheet are sound, and [`plan::brine()`] what
+//! the injectors of many sheets are sent and have to spare.
 //!
 //! The library allocates nothing and keeps nothing, so every type here may go from thread to thread.
 //! Not claimed, as by the library: that two messages never share a digest, anything about time or

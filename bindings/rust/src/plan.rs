@@ -18,16 +18,20 @@
 //! sheet.check()?;
 //! # Ok::<(), Box<dyn std::error::Error>>(())
 //! ```
+//!
+//! What the injectors of up to 64 sheets are sent, and have to spare, is on one page: [`brine()`].
 
 use crate::{Error, ffi, sheet};
 use std::fmt;
 
+mod brine;
 #[cfg(test)]
 mod rules;
 #[cfg(test)]
 mod tests;
 mod well;
 
+pub use brine::{Page, Row, Totals, brine, brine_into};
 pub use well::{Kind, Link, Well};
 
 /// What a check says: sound, or where the sheet isn't.

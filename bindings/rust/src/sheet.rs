@@ -321,6 +321,13 @@ impl Sheet {
     }
 }
 
+/// [`Sheet::bytes`].
+impl AsRef<[u8]> for Sheet {
+    fn as_ref(&self) -> &[u8] {
+        self.bytes()
+    }
+}
+
 /// Sheets are equal that have the same code and records.
 impl PartialEq for Sheet {
     fn eq(&self, other: &Sheet) -> bool {

@@ -1,4 +1,5 @@
-//! The refusals: document 01's numbers, each met from the library itself.
+//! The refusals: luffa.h's numbers, document 01's each met from the library itself. Those that a brine
+//! statement alone gives are met in plan/brine/refusals.rs.
 
 use super::Error;
 use crate::ffi::{self, Lent};
@@ -8,7 +9,7 @@ use crate::{Code, Digest, Luffa256, Sheet};
 fn numbers_and_sentences() {
     assert_eq!(Error::judge(0, 0), Ok(()));
     let mut sentences = Vec::new();
-    for number in 1..=11 {
+    for number in (1..=11).chain([13, 25]) {
         let error = Error::judge(number, 5).unwrap_err();
         assert_eq!(u64::from(error.number()), number);
         let source: &dyn std::error::Error = &error;
@@ -17,7 +18,7 @@ fn numbers_and_sentences() {
     assert_eq!(Error::judge(11, 5), Err(Error::Stale { rounds: 5 }));
     sentences.sort();
     sentences.dedup();
-    assert_eq!(sentences.len(), 11);
+    assert_eq!(sentences.len(), 13);
 }
 
 #[test]

@@ -27,7 +27,7 @@ pub(super) fn with<const N: usize>(mut record: [u8; 40], at: usize, bytes: [u8; 
     record
 }
 
-fn with_rate(record: [u8; 40], rate: u32) -> [u8; 40] {
+pub(super) fn with_rate(record: [u8; 40], rate: u32) -> [u8; 40] {
     with(record, 4, rate.to_be_bytes())
 }
 

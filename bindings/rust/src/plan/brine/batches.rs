@@ -1,0 +1,165 @@
+//! Random batches against sums that are worked out injector by injector.
+
+use super::{Page, Row, Totals, brine, brine_into};
+use crate::plan::{Kind, Link, Well};
+use crate::random::Numbers;
+use std::collections::BTreeMap;
+
+/// A random sheet.
+struct Given {
+    /// Sound wells.
+    wells: Vec<Well>,
+    /// Where the kind of one is mistyped, if it is.
+    fault: Option<usize>,
+}
+
+impl Given {
+    fn bytes(&self) -> Vec<u8> {
+        let mut records: Vec<_> = self.wells.iter().map(Well::to_record).collect();
+        if let Some(place) = self.fault {
+            records[place][2] ^= 4;
+        }
+        records.concat()
+    }
+
+    /// Each injector asks every producer what it sends.
+    fn rows(&self) -> Vec<Row> {
+        let row = |well: &Well| match (self.fault, well.kind()) {
+            (None, Kind::Injector) => {
+                let intake = sent(&self.wells, well.number());
+                let spare = 1000 * i64::from(well.rate()) - intake as i64;
+                Row { intake, spare }
+            }
+            _ => Row::default(),
+        };
+        self.wells.iter().map(row).collect()
+    }
+
+    /// What its producers give.
+    fn given(&self) -> u64 {
+        let producers = self.wells.iter().filter(|w| w.kind() == Kind::Producer);
+        producers.map(|w| 1000 * u64::from(w.rate())).sum()
+    }
+}
+
+/// Kilograms that these wells send to an injector.
+fn sent(wells: &[Well], injector: u16) -> u64 {
+    let to = |well: &Well| {
+        let named = well.links().iter().filter(|l| l.injector == injector);
+        u64::from(well.rate()) * named.map(|l| u64::from(l.share)).sum::<u64>()
+    };
+    wells.iter().map(to).sum()
+}
+
+fn expected(batch: &[Given]) -> Page {
+    let sound: Vec<_> = batch.iter().filter(|g| g.fault.is_none()).collect();
+    let rows: Vec<_> = batch.iter().map(Given::rows).collect();
+    let totals = Totals {
+        sound: sound.len(),
+        faulted: batch.len() - sound.len(),
+        intake: sound.iter().map(|g| g.given()).sum(),
+        overloaded: rows.concat().iter().filter(|r| r.spare < 0).count(),
+    };
+    Page { totals, rows }
+}
+
+/// Up to 24 wells of both kinds. Two sheets will have some numbers in common.
+fn any_wells(numbers: &mut Numbers) -> Vec<Well> {
+    let (first, step) = (numbers.below(61), 1 + numbers.below(60));
+    let mut wells: Vec<_> = (0..numbers.below(25))
+        .map(|place| 1 + 1074 * ((first + step * place) % 61) as u16)
+        .map(|number| [Well::producer, Well::injector][numbers.below(2)](number))
+        .collect();
+    let injectors: Vec<_> = wells
+        .iter()
+        .filter(|w| w.kind() == Kind::Injector)
+        .map(Well::number)
+        .collect();
+    let producers = |w: &&mut Well| w.kind() == Kind::Producer;
+    for well in wells.iter_mut().filter(producers) {
+        let links = any_links(numbers, &injectors);
+        if !links.is_empty() {
+            let thousands = 1000 * (1 + numbers.below(100));
+            let rate = [1, thousands, 1 + numbers.below(100_000)][numbers.below(3)];
+            *well = well.with_rate(rate as u32).with_links(&links).unwrap();
+        }
+    }
+    // Rates around what is sent, as far as a rate may go.
+    for place in 0..wells.len() {
+        if wells[place].kind() == Kind::Injector {
+            let sent = sent(&wells, wells[place].number()) as usize;
+            let rates = [0, sent / 1000, sent.div_ceil(1000), numbers.below(100_001)];
+            let rate = rates[numbers.below(4)].min(100_000);
+            wells[place] = wells[place].with_rate(rate as u32);
+        }
+    }
+    wells
+}
+
+/// None to four of the injectors, with shares that add up.
+fn any_links(numbers: &mut Numbers, injectors: &[u16]) -> Vec<Link> {
+    let (first, mut left) = (numbers.below(61), 1000);
+    let count = numbers.below(injectors.len().min(4) + 1);
+    let link = |k| {
+        let share = match count - 1 - k {
+            0 => left,
+            behind => 1 + numbers.below(left - behind),
+        };
+        left -= share;
+        Link {
+            injector: injectors[(first + k) % injectors.len()],
+            share: share as u16,
+        }
+    };
+    (0..count).map(link).collect()
+}
+
+#[test]
+fn random_batches() {
+    let mut numbers = Numbers(3);
+    let mut met = BTreeMap::new();
+    for k in 0..1000 {
+        let given = |_| {
+            let wells = any_wells(&mut numbers);
+            let fault =
+                (!wells.is_empty() && numbers.below(4) == 0).then(|| numbers.below(wells.len()));
+            Given { wells, fault }
+        };
+        let batch: Vec<_> = (0..k % 9).map(given).collect();
+        let sheets: Vec<_> = batch.iter().map(Given::bytes).collect();
+        let wanted = expected(&batch);
+        assert_eq!(brine(&sheets).unwrap(), wanted, "batch {k}");
+
+        // The same from one buffer, with more bytes and places than the batch needs.
+        let rows = wanted.rows.concat();
+        let bytes = [sheets.concat(), numbers.bytes(k % 50)].concat();
+        let counts: Vec<_> = batch.iter().map(|g| g.wells.len()).collect();
+        let (mut intake, mut spare) = (vec![5; rows.len() + 3], vec![-5; rows.len() + 4]);
+        let totals = brine_into(&bytes, &counts, &mut intake, &mut spare).unwrap();
+        assert_eq!(totals, wanted.totals, "batch {k}");
+        let places = rows.iter().map(|row| row.intake).chain([5; 3]);
+        assert!(places.eq(intake), "batch {k}: intake");
+        let places = rows.iter().map(|row| row.spare).chain([-5; 4]);
+        assert!(places.eq(spare), "batch {k}: spare");
+
+        let mut meet = |kind| *met.entry(kind).or_insert(0) += 1;
+        for row in &rows {
+            meet(match (row.intake, row.spare) {
+                (0, 0) => "zeros",
+                (0, _) => "sent nothing",
+                (_, 0) => "full",
+                (_, 1..) => "some to spare",
+                (_, ..0) => "overloaded",
+            });
+        }
+        for given in &batch {
+            meet(match (given.fault, given.wells.len()) {
+                (Some(_), _) => "faulted",
+                (None, 0) => "empty",
+                (None, _) => "sound",
+            });
+        }
+    }
+    assert_eq!(met.len(), 8, "{met:?}");
+    assert!(met.values().all(|times| *times > 100), "{met:?}");
+}
