@@ -1,14 +1,12 @@
-/* Cycles per byte of the archive and of portable.c over the same messages in one run, of feeding against the one-call digest, of the sheet
-   calls and the check of content against hashing the whole sheet, and the stack of each call, with the bars. It measures nothing before all
-   have given the same digests and sound sheets were called sound; --check leaves out the clock. */
+/* Cycles per byte of the archive and of portable.c over the same messages in one run, of feeding against the one-call digest, and of the
+   sheet calls against hashing the whole sheet, with the bars; then the other parts: plans.c has what a sheet means, stack.c the stack of each
+   call. It measures nothing before all have given the same digests and sound sheets were called sound; --check leaves out the clock. */
+#include "bench.h"
 #include "portable.h"
-#include "work.h"
 
-#include <float.h>
 #include <stdio.h>
 #include <stdlib.h>
 #include <string.h>
-#include <ucontext.h>
 
 static uint32_t portable_c_digest(struct job *job)
 {
@@ -162,78 +160,7 @@ static int check_sheets(const uint8_t *message)
     return 1;
 }
 
-/* -- The check of content -- */
-
-/* The records of the sheets that are checked, and the calls in one timing. */
-static const struct {
-    size_t n;
-    unsigned calls;
-} PLANS[] = {{1, 200}, {16, 100}, {128, 20}, {SHEET_MOST, 4}};
-enum { PLAN_1, PLAN_16, PLAN_128, PLAN_MOST };
-
-/* The job of checking such a sheet, or of digesting its bytes. */
-static struct job plan_job(size_t plan)
-{
-    static uint8_t sheets[COUNT(PLANS)][SHEET_RECORD * SHEET_MOST];
-
-    fill_wells(sheets[plan], PLANS[plan].n);
-    return job_of(LUFFA_256, sheets[plan], SHEET_RECORD * PLANS[plan].n);
-}
-
-static int verdict_is(uint64_t rule, uint64_t place, const uint8_t *sheet, size_t n)
-{
-    struct luffa_content_answer answer = luffa_plan_check(sheet, SHEET_RECORD * n, n);
-
-    if (answer.number == LUFFA_DONE && answer.rule == rule && answer.place == place)
-        return 1;
-    printf("WRONG: the check of %zu wells answers %u, rule %u at place %u; expected is rule %u at place %u\n", n, (unsigned)answer.number,
-           (unsigned)answer.rule, (unsigned)answer.place, (unsigned)rule, (unsigned)place);
-    return 0;
-}
-
-/* The sheets that are measured are sound, and the check comes to their ends: a rate that is too high at the last place is found. */
-static int check_plans(void)
-{
-    for (size_t plan = 0; plan < COUNT(PLANS); plan++) {
-        static uint8_t sheet[SHEET_RECORD * SHEET_MOST];
-        size_t n = PLANS[plan].n;
-        fill_wells(sheet, n);
-        if (!verdict_is(LUFFA_SOUND, 0, sheet, n))
-            return 0;
-        put(sheet + SHEET_RECORD * (n - 1) + LUFFA_WELL_RATE, 4, LUFFA_RATE_MOST + 1);
-        if (!verdict_is(LUFFA_RULE_RATE, n - 1, sheet, n))
-            return 0;
-    }
-    printf("the check of content, of 1 to %d wells: sound, and a fault at the last place\n", SHEET_MOST);
-    return 1;
-}
-
 /* -- The timing -- */
-
-/* A length, the calls in one timing (a short job alone would be lost in the cost of reading the clock), and the timings. */
-struct length {
-    size_t len;
-    unsigned calls, timings;
-};
-
-/* One more timing, in cycles per byte of the job; the best so far is kept. */
-static void better(work *run, struct job *job, unsigned calls, double *best)
-{
-    double cycles = (double)timing(run, job, calls) / calls / (double)job->len;
-    *best = cycles < *best ? cycles : *best;
-}
-
-/* All take turns, so that all meet the same clock speed and the same neighbours. The best timing of each, in cycles per byte. */
-static void race(work *const *runs, size_t count, struct job *job, const struct length *length, double *best)
-{
-    for (size_t k = 0; k < count; k++)
-        best[k] = DBL_MAX;
-    for (unsigned i = 0; i < length->timings; i++)
-        for (size_t k = 0; k < count; k++)
-            better(runs[k], job, length->calls, &best[k]);
-}
-
-static const char *verdict(double value, double bar) { return value <= bar ? "ok" : "MISSED"; }
 
 /* The one-call digest against portable C. A bar stands at the longest message only: there the rounds are nearly all of the work. */
 static void digests(const uint8_t *message)
@@ -331,165 +258,6 @@ static void sheets(const uint8_t *message)
         }
         fflush(stdout);
     }
-}
-
-/* The check against the digest of the same bytes. The sheets take turns too, as the cycles a record of one are compared with another's. */
-static void plans(void)
-{
-    static const unsigned TIMINGS = 400;
-    static const double BAR_DIGEST = 0.5, BAR_RECORD = 1.5;
-    struct job jobs[COUNT(PLANS)];
-    double check[COUNT(PLANS)], digest[COUNT(PLANS)];
-
-    for (size_t p = 0; p < COUNT(PLANS); p++) {
-        jobs[p] = plan_job(p);
-        check[p] = digest[p] = DBL_MAX;
-    }
-    for (unsigned i = 0; i < TIMINGS; i++)
-        for (size_t p = 0; p < COUNT(PLANS); p++) {
-            better(archive_plan_check, &jobs[p], PLANS[p].calls, &check[p]);
-            better(archive_digest, &jobs[p], PLANS[p].calls, &digest[p]);
-        }
-
-    printf("\nCheck of content, cycles per call, beside the digest of the same bytes at code 2, best timing of each, taken in turns\n\n");
-    printf("records     check   a record    digest     ratio\n");
-    for (size_t p = 0; p < COUNT(PLANS); p++) {
-        double bytes = (double)jobs[p].len, ratio = check[p] / digest[p];
-        printf("%7zu %9.0f %10.1f %9.0f %9.3f", PLANS[p].n, check[p] * bytes, check[p] * SHEET_RECORD, digest[p] * bytes, ratio);
-        if (p == PLAN_MOST)
-            printf("   at most %.2f: %s", BAR_DIGEST, verdict(ratio, BAR_DIGEST));
-        printf("\n");
-    }
-    double growth = check[PLAN_MOST] / check[PLAN_128];
-    printf("a record of 1,024 to one of 128: %.3f   at most %.2f: %s\n", growth, BAR_RECORD, verdict(growth, BAR_RECORD));
-    fflush(stdout);
-}
-
-/* -- The stack -- */
-
-/* The check of content has a bar of its own: it keeps what it has seen of the whole sheet. */
-enum { STACK_BYTES = 1 << 18, STACK_BAR = 4096, PLAN_STACK_BAR = 160 << 10 };
-
-/* The stack to paint, and what to run on it: makecontext hands over no pointers. */
-static _Alignas(64) uint8_t stack[STACK_BYTES];
-static struct {
-    work *run;
-    struct job job;
-    uint32_t answer;
-} there;
-
-static void run_there(void) { there.answer = there.run(&there.job); }
-
-static uint32_t nothing(struct job *job)
-{
-    (void)job;
-    return LUFFA_DONE;
-}
-
-/* Does a copy of the job on the painted stack. Gives the bytes from its upper end down to the lowest that isn't paint any more. */
-static size_t touched(work *run, const struct job *job, uint8_t paint)
-{
-    ucontext_t here, other;
-    size_t left = 0;
-
-    memset(stack, paint, sizeof stack);
-    there.run = run;
-    there.job = *job;
-    if (getcontext(&other) != 0) {
-        perror("getcontext");
-        exit(1);
-    }
-    other.uc_stack.ss_sp = stack;
-    other.uc_stack.ss_size = sizeof stack;
-    other.uc_link = &here;
-    makecontext(&other, run_there, 0);
-    if (swapcontext(&here, &other) != 0) {
-        perror("swapcontext");
-        exit(1);
-    }
-    if (there.answer != LUFFA_DONE) {
-        printf("REFUSED: code %zu, %zu bytes, answer %u\n", job->code, job->len, (unsigned)there.answer);
-        exit(1);
-    }
-    while (left < sizeof stack && stack[left] == paint)
-        left++;
-    return sizeof stack - left;
-}
-
-/* A written byte can be like one paint, but not like both. */
-static size_t most_touched(work *run, const struct job *job)
-{
-    size_t a = touched(run, job, FILL), b = touched(run, job, (uint8_t)~FILL);
-    return a > b ? a : b;
-}
-
-/* The stack of a call from its return address down. A call that does nothing shows what is not the call's own; it has a return address
-   too. */
-static size_t own_stack(work *run, const struct job *job) { return most_touched(run, job) - most_touched(nothing, job) + sizeof(void *); }
-
-static int stack_line(const char *name, size_t most, size_t bar)
-{
-    printf("%-18s %6zu   at most %zu: %s\n", name, most, bar, verdict((double)most, (double)bar));
-    return most <= bar;
-}
-
-/* The most stack of each call over codes, lengths and bytes held in the record; of the sheet calls, over codes and numbers of records. */
-static int stacks(const uint8_t *message)
-{
-    static const struct {
-        const char *name;
-        work *run;
-    } CALLS[] = {
-        {"luffa_digest", archive_digest},
-        {"luffa_start", archive_start},
-        {"luffa_feed", archive_feed},
-        {"luffa_finish", archive_finish},
-        {"luffa_hash_start", archive_hash_start},
-        {"luffa_hash_feed", archive_hash_feed},
-        {"luffa_hash_finish", archive_hash_finish},
-    }, SHEET_CALLS[] = {
-        {"luffa_sheet_build", archive_build},
-        {"luffa_sheet_change", archive_change_middle},
-        {"luffa_sheet_append", archive_append},
-        {"luffa_sheet_drop", archive_drop},
-    };
-    static const size_t LENGTHS[] = {0, 1, 31, 32, 33, 63, 64, 65, 200, 4096, 65537}, HELD[] = {0, 1, 16, 31, 32};
-    static const size_t RECORDS[] = {1, 2, 3, 4, 5, 9, 1023, SHEET_MOST};
-    int ok = 1;
-
-    printf("\nStack, bytes: the most that a call has written to, over codes 1 to %d, %zu lengths and %zu records, or %zu sheets\n\n", CODES,
-           COUNT(LENGTHS), COUNT(HELD), COUNT(RECORDS));
-    for (size_t i = 0; i < COUNT(CALLS); i++) {
-        size_t most = 0;
-        for (size_t code = 1; code <= CODES; code++)
-            for (size_t k = 0; k < COUNT(HELD); k++)
-                for (size_t n = 0; n < COUNT(LENGTHS); n++) {
-                    struct job job = job_of(code, message, HELD[k]);
-                    archive_feed(&job);
-                    archive_hash_feed(&job);
-                    job.len = LENGTHS[n];
-                    size_t own = own_stack(CALLS[i].run, &job);
-                    most = own > most ? own : most;
-                }
-        ok &= stack_line(CALLS[i].name, most, STACK_BAR);
-    }
-    for (size_t i = 0; i < COUNT(SHEET_CALLS); i++) {
-        size_t most = 0;
-        for (size_t code = 1; code <= CODES; code++)
-            for (size_t n = 0; n < COUNT(RECORDS); n++) {
-                struct job job = sheet_job(code, message, RECORDS[n]);
-                size_t own = own_stack(SHEET_CALLS[i].run, &job);
-                most = own > most ? own : most;
-            }
-        ok &= stack_line(SHEET_CALLS[i].name, most, STACK_BAR);
-    }
-    size_t most = 0;
-    for (size_t p = 0; p < COUNT(PLANS); p++) {
-        struct job job = plan_job(p);
-        size_t own = own_stack(archive_plan_check, &job);
-        most = own > most ? own : most;
-    }
-    return stack_line("luffa_plan_check", most, PLAN_STACK_BAR) && ok;
 }
 
 int main(int argc, char **argv)

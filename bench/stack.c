@@ -1,0 +1,133 @@
+/* The stack of each call. */
+#include "bench.h"
+#include "wells.h"
+
+#include <stdio.h>
+#include <stdlib.h>
+#include <string.h>
+#include <ucontext.h>
+
+/* The check of content has a bar of its own: it keeps what it has seen of the whole sheet. */
+enum { STACK_BYTES = 1 << 18, STACK_BAR = 4096, PLAN_STACK_BAR = 160 << 10 };
+
+/* The stack to paint, and what to run on it: makecontext hands over no pointers. */
+static _Alignas(64) uint8_t stack[STACK_BYTES];
+static struct {
+    work *run;
+    struct job job;
+    uint32_t answer;
+} there;
+
+static void run_there(void) { there.answer = there.run(&there.job); }
+
+static uint32_t nothing(struct job *job)
+{
+    (void)job;
+    return LUFFA_DONE;
+}
+
+/* Does a copy of the job on the painted stack. Gives the bytes from its upper end down to the lowest that isn't paint any more. */
+static size_t touched(work *run, const struct job *job, uint8_t paint)
+{
+    ucontext_t here, other;
+    size_t left = 0;
+
+    memset(stack, paint, sizeof stack);
+    there.run = run;
+    there.job = *job;
+    if (getcontext(&other) != 0) {
+        perror("getcontext");
+        exit(1);
+    }
+    other.uc_stack.ss_sp = stack;
+    other.uc_stack.ss_size = sizeof stack;
+    other.uc_link = &here;
+    makecontext(&other, run_there, 0);
+    if (swapcontext(&here, &other) != 0) {
+        perror("swapcontext");
+        exit(1);
+    }
+    if (there.answer != LUFFA_DONE) {
+        printf("REFUSED: code %zu, %zu bytes, answer %u\n", job->code, job->len, (unsigned)there.answer);
+        exit(1);
+    }
+    while (left < sizeof stack && stack[left] == paint)
+        left++;
+    return sizeof stack - left;
+}
+
+/* A written byte can be like one paint, but not like both. */
+static size_t most_touched(work *run, const struct job *job)
+{
+    size_t a = touched(run, job, FILL), b = touched(run, job, (uint8_t)~FILL);
+    return a > b ? a : b;
+}
+
+/* The stack of a call from its return address down. A call that does nothing shows what is not the call's own; it has a return address
+   too. */
+static size_t own_stack(work *run, const struct job *job) { return most_touched(run, job) - most_touched(nothing, job) + sizeof(void *); }
+
+static int stack_line(const char *name, size_t most, size_t bar)
+{
+    printf("%-18s %6zu   at most %zu: %s\n", name, most, bar, verdict((double)most, (double)bar));
+    return most <= bar;
+}
+
+/* The most stack of each call over codes, lengths and bytes held in the record; of the sheet calls, over codes and numbers of records. */
+int stacks(const uint8_t *message)
+{
+    static const struct {
+        const char *name;
+        work *run;
+    } CALLS[] = {
+        {"luffa_digest", archive_digest},
+        {"luffa_start", archive_start},
+        {"luffa_feed", archive_feed},
+        {"luffa_finish", archive_finish},
+        {"luffa_hash_start", archive_hash_start},
+        {"luffa_hash_feed", archive_hash_feed},
+        {"luffa_hash_finish", archive_hash_finish},
+    }, SHEET_CALLS[] = {
+        {"luffa_sheet_build", archive_build},
+        {"luffa_sheet_change", archive_change_middle},
+        {"luffa_sheet_append", archive_append},
+        {"luffa_sheet_drop", archive_drop},
+    };
+    static const size_t LENGTHS[] = {0, 1, 31, 32, 33, 63, 64, 65, 200, 4096, 65537}, HELD[] = {0, 1, 16, 31, 32};
+    static const size_t RECORDS[] = {1, 2, 3, 4, 5, 9, 1023, SHEET_MOST};
+    int ok = 1;
+
+    printf("\nStack, bytes: the most that a call has written to, over codes 1 to %d, %zu lengths and %zu records, or %zu sheets\n\n", CODES,
+           COUNT(LENGTHS), COUNT(HELD), COUNT(RECORDS));
+    for (size_t i = 0; i < COUNT(CALLS); i++) {
+        size_t most = 0;
+        for (size_t code = 1; code <= CODES; code++)
+            for (size_t k = 0; k < COUNT(HELD); k++)
+                for (size_t n = 0; n < COUNT(LENGTHS); n++) {
+                    struct job job = job_of(code, message, HELD[k]);
+                    archive_feed(&job);
+                    archive_hash_feed(&job);
+                    job.len = LENGTHS[n];
+                    size_t own = own_stack(CALLS[i].run, &job);
+                    most = own > most ? own : most;
+                }
+        ok &= stack_line(CALLS[i].name, most, STACK_BAR);
+    }
+    for (size_t i = 0; i < COUNT(SHEET_CALLS); i++) {
+        size_t most = 0;
+        for (size_t code = 1; code <= CODES; code++)
+            for (size_t n = 0; n < COUNT(RECORDS); n++) {
+                struct job job = sheet_job(code, message, RECORDS[n]);
+                size_t own = own_stack(SHEET_CALLS[i].run, &job);
+                most = own > most ? own : most;
+            }
+        ok &= stack_line(SHEET_CALLS[i].name, most, STACK_BAR);
+    }
+    size_t most = 0;
+    for (size_t p = 0; p < PLANS_COUNT; p++) {
+        struct job job = plan_job(p);
+        size_t own = own_stack(archive_plan_check, &job);
+        most = own > most ? own : most;
+    }
+    return stack_line("luffa_plan_check", most, PLAN_STACK_BAR) && ok;
+}
