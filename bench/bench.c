@@ -1,6 +1,6 @@
 /* Cycles per byte of the archive and of portable.c over the same messages in one run, of feeding against the one-call digest, and of the
    sheet calls against hashing the whole sheet, with the bars; then the other parts: plans.c has what a sheet means, stack.c the stack of each
-   call. It measures nothing before all have given the same digests and sound sheets were called sound; --check leaves out the clock. */
+   call. It measures nothing before all have given the same digests and the calls on sound sheets were right; --check leaves out the clock. */
 #include "bench.h"
 #include "portable.h"
 

@@ -31,13 +31,23 @@ static inline void race(work *const *runs, size_t count, struct job *job, const 
 
 static inline const char *verdict(double value, double bar) { return value <= bar ? "ok" : "MISSED"; }
 
-/* -- The check of content (plans.c) -- */
+/* -- What sheets mean (plans.c) -- */
 
-/* The sheets that are checked. */
-enum { PLAN_1, PLAN_16, PLAN_128, PLAN_MOST, PLANS_COUNT };
+enum { PLANS_COUNT = 2, SIZES_MOST = 4 };
 
-/* The job of checking such a sheet, or of digesting its bytes. */
-struct job plan_job(size_t plan);
+/* A call on batches of so many sheets of so many wells each, with the calls in one timing; the bar stands at the last, beside the digest of
+   the same bytes. */
+extern const struct plan {
+    const char *name, *call;
+    work *run;
+    double bar;
+    unsigned timings;
+    size_t count;
+    struct size {
+        size_t sheets, n;
+        unsigned calls;
+    } sizes[SIZES_MOST];
+} PLANS[PLANS_COUNT];
 
 int check_plans(void);
 void plans(void);

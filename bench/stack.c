@@ -7,7 +7,7 @@
 #include <string.h>
 #include <ucontext.h>
 
-/* The check of content has a bar of its own: it keeps what it has seen of the whole sheet. */
+/* The calls on what sheets mean have a bar of their own: they keep what they have seen of a whole sheet. */
 enum { STACK_BYTES = 1 << 18, STACK_BAR = 4096, PLAN_STACK_BAR = 160 << 10 };
 
 /* The stack to paint, and what to run on it: makecontext hands over no pointers. */
@@ -95,6 +95,7 @@ int stacks(const uint8_t *message)
     };
     static const size_t LENGTHS[] = {0, 1, 31, 32, 33, 63, 64, 65, 200, 4096, 65537}, HELD[] = {0, 1, 16, 31, 32};
     static const size_t RECORDS[] = {1, 2, 3, 4, 5, 9, 1023, SHEET_MOST};
+    static struct batch batch;
     int ok = 1;
 
     printf("\nStack, bytes: the most that a call has written to, over codes 1 to %d, %zu lengths and %zu records, or %zu sheets\n\n", CODES,
@@ -123,11 +124,14 @@ int stacks(const uint8_t *message)
             }
         ok &= stack_line(SHEET_CALLS[i].name, most, STACK_BAR);
     }
-    size_t most = 0;
-    for (size_t p = 0; p < PLANS_COUNT; p++) {
-        struct job job = plan_job(p);
-        size_t own = own_stack(archive_plan_check, &job);
-        most = own > most ? own : most;
+    for (size_t i = 0; i < PLANS_COUNT; i++) {
+        size_t most = 0;
+        for (size_t k = 0; k < PLANS[i].count; k++) {
+            struct job job = batch_job(&batch, PLANS[i].sizes[k].sheets, PLANS[i].sizes[k].n);
+            size_t own = own_stack(PLANS[i].run, &job);
+            most = own > most ? own : most;
+        }
+        ok &= stack_line(PLANS[i].call, most, PLAN_STACK_BAR);
     }
-    return stack_line("luffa_plan_check", most, PLAN_STACK_BAR) && ok;
+    return ok;
 }

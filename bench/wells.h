@@ -1,4 +1,4 @@
-/* Sheets of wells, and the work of checking them. plans.c and stack.c have it. */
+/* Sheets of wells, and the works of the calls on what they mean. */
 #ifndef WELLS_H
 #define WELLS_H
 
@@ -37,11 +37,58 @@ static inline void fill_wells(uint8_t *sheet, size_t n)
     }
 }
 
-/* The message as a sheet; the answer is 0 where it is sound. */
+/* What a record's rate is in kilograms a day. */
+static inline uint64_t kilograms(const uint8_t *well)
+{
+    uint64_t rate = 0;
+
+    for (size_t i = 0; i < 4; i++)
+        rate = rate << 8 | well[LUFFA_WELL_RATE + i];
+    return 1000 * rate;
+}
+
+/* Sheets of n wells each, one after another, with their counts and the lists of a brine statement. */
+struct batch {
+    size_t sheets, n, counts[LUFFA_BATCH_MOST];
+    uint8_t wells[SHEET_RECORD * SHEET_MOST * LUFFA_BATCH_MOST];
+    uint64_t intake[SHEET_MOST * LUFFA_BATCH_MOST];
+    int64_t spare[SHEET_MOST * LUFFA_BATCH_MOST];
+};
+
+/* The job of a call on such a batch, or of digesting its bytes. */
+static inline struct job batch_job(struct batch *batch, size_t sheets, size_t n)
+{
+    struct job job = job_of(LUFFA_256, batch->wells, SHEET_RECORD * n * sheets);
+
+    job.batch = batch;
+    batch->sheets = sheets;
+    batch->n = n;
+    for (size_t s = 0; s < sheets; s++) {
+        batch->counts[s] = n;
+        fill_wells(batch->wells + SHEET_RECORD * n * s, n);
+    }
+    return job;
+}
+
+/* The calls: the check is of the first sheet. */
+static inline struct luffa_content_answer check_of(const struct batch *b) { return luffa_plan_check(b->wells, sizeof b->wells, b->n); }
+
+static inline struct luffa_brine_answer page_of(struct batch *b)
+{
+    return luffa_plan_brine(b->wells, sizeof b->wells, b->counts, b->sheets, b->intake, COUNT(b->intake), b->spare, COUNT(b->spare));
+}
+
+/* As works, whose answer is 0 where all is sound. */
 static inline uint32_t archive_plan_check(struct job *job)
 {
-    struct luffa_content_answer answer = luffa_plan_check(job->message, job->len, job->len / SHEET_RECORD);
+    struct luffa_content_answer answer = check_of(job->batch);
     return (uint32_t)(answer.number | answer.rule);
+}
+
+static inline uint32_t archive_plan_brine(struct job *job)
+{
+    struct luffa_brine_answer answer = page_of(job->batch);
+    return (uint32_t)(answer.number | answer.faulted);
 }
 
 #endif

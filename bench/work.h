@@ -15,7 +15,7 @@ enum { SHEET_RECORD = LUFFA_SHEET_RECORD_BYTES, SHEET_MOST = LUFFA_SHEET_MOST, M
 static const size_t DIGEST_BYTES[CODES + 1] = {0, LUFFA_224_BYTES, LUFFA_256_BYTES, LUFFA_384_BYTES, LUFFA_512_BYTES};
 
 /* What a measured thing is given: a code, a message, room for the digest, a record and a struct in its place; for a sheet call, the sheet
-   whose records are the message. */
+   whose records are the message; for a call on what sheets mean, the batch whose wells are. */
 struct job {
     size_t code;
     const uint8_t *message;
@@ -24,6 +24,7 @@ struct job {
     uint8_t record[LUFFA_RECORD_BYTES];
     struct luffa_hash hash;
     struct sheet *sheet;
+    struct batch *batch;
 };
 
 /* n records and their marks, the last mark once more, and the digests of all records and of all but the last. */
