@@ -2,27 +2,10 @@
    broken; mended, the sheet is sound. To build it:
    gcc -Iinclude examples/plan/plan.c target/staticlib/libluffa.a -o plan
 */
-#include <luffa.h>
+#include "../wells.h"
 #include <stdio.h>
 
 static uint8_t sheet[2 * LUFFA_SHEET_RECORD_BYTES];
-
-/* Numbers stand high byte first. */
-static void put(uint8_t *at, size_t bytes, uint32_t number)
-{
-    for (; bytes > 0; number >>= 8)
-        at[--bytes] = (uint8_t)number;
-}
-
-static uint8_t *put_well(size_t place, uint32_t number, uint8_t kind, uint32_t rate)
-{
-    uint8_t *well = sheet + LUFFA_SHEET_RECORD_BYTES * place;
-
-    put(well + LUFFA_WELL_NUMBER, 2, number);
-    well[LUFFA_WELL_KIND] = kind;
-    put(well + LUFFA_WELL_RATE, 4, rate);
-    return well;
-}
 
 static void show(const char *when)
 {
@@ -42,12 +25,11 @@ static void show(const char *when)
 
 int main(void)
 {
-    put_well(0, 14, LUFFA_INJECTOR, 600);
-    uint8_t *producer = put_well(1, 3, LUFFA_PRODUCER, 500);
+    uint8_t *producer = sheet + LUFFA_SHEET_RECORD_BYTES;
 
-    producer[LUFFA_WELL_LINK_COUNT] = 1;
-    put(producer + LUFFA_LINK_INJECTOR(0), 2, 41);
-    put(producer + LUFFA_LINK_SHARE(0), 2, LUFFA_SHARES_TOTAL);
+    put_well(sheet, 14, LUFFA_INJECTOR, 600);
+    put_well(producer, 3, LUFFA_PRODUCER, 500);
+    add_link(producer, 41, LUFFA_SHARES_TOTAL);
     show("as typed");
     put(producer + LUFFA_LINK_INJECTOR(0), 2, 14);
     show("mended");
