@@ -4,9 +4,9 @@ use mathlib.Core.Path.{_≡_, refl, ap, _∙_}
 use mathlib.Core.Logic.{_↔_, Iff·trans}
 use mathlib.Core.Bool.{true, false, _&&_, false≢true}
 use mathlib.Core.List.{List, [], _∷_, map}
-use Prim.Native.Nat.{ℕ, suc, _*_}
+use Prim.Native.Nat.{ℕ, suc}
 use lib.IntN.{pos}
-use lib.ListN.{length, drop, replicate, length-append, length-map}
+use lib.ListN.{length, replicate, length-append, length-map}
 use Rattle.sheet_definition.specs.Run.{cut}
 use Rattle.sheet_definition.proofs.Joined.{length-cut}
 use Rattle.plan_definition.specs.declared.Well.{Well}
@@ -78,4 +78,4 @@ length-page (n ∷ ns) sheets = simp (length-append, length-rows, length-wells, 
 pub length-batch : (counts sheets : List ℕ) → length (batch counts sheets) ≡ length counts
 unfolding batch
 length-batch [] sheets = refl
-length-batch (n ∷ ns) sheets = ap suc (length-batch ns (drop (40 * n) sheets))
+length-batch (n ∷ ns) sheets = ap suc (length-batch ns _)
