@@ -1,7 +1,7 @@
 -- `brine::sheet_after_sheet` meets its contract. The loop's invariant: with the sheets that are left, totals and lists are those of the batch.
 -- Assumes nothing.
-use mathlib.Core.Path.{refl, _∙_}
-use mathlib.Core.List.{[], _∷_, _++_}
+use mathlib.Core.Path.{refl}
+use mathlib.Core.List.{_++_}
 use Prim.Native.Nat.{ℕ, suc, _-_, _+_, _*_, _≤_}
 use native.Mathlib.Numerals.{add-one}
 use native.Mathlib.Omega.{arith}
@@ -9,7 +9,6 @@ use borrow.Author.Needs.{needs}
 use denote.Ref.{now}
 use lib.ListN.{length, getD, take}
 use Rattle.brine_definition.specs.declared.Statement.{Statement}
-use Rattle.brine_definition.specs.Statement.{brineOutcome}
 use Rattle.brine_definition.proofs.Figures.{AnswerFits, answer-fits}
 use Rattle.brine.proofs.Filled.{to-the-end, none-behind}
 use Rattle.brine.proofs.Totals.{plus, part-fits}
@@ -62,9 +61,7 @@ added c =
     let b = turn c .before in
     let l = b .loop in
     one-more (start b .pre) (l .inv) (turn c .loop-test .taken) _
-    (c .statement .ensures
-    ∙ λ i. brineOutcome (to-the-end (40 * l .at) (now (start b .args .sheets)) i) (count b ∷ []) (to-the-end (l .at) (l .intake) i)
-    (to-the-end (l .at) (l .spare) i))
+    (rw (to-the-end (40 * l .at) (now (start b .args .sheets)), to-the-end (l .at) (l .intake), to-the-end (l .at) (l .spare)) at (c .statement .ensures))
 
 -- no total passes the batch's, which fit
 small : (c : tie.After-statement Inv-loop μ-loop) → AnswerFits (plus (so-far (turn c .before)) (c .statement .result))
