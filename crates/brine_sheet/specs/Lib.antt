@@ -1,2 +1,3 @@
--- What is sent to the places of a sheet.
+-- What is sent to the places of a sheet, and the table in which these are found.
 pub mod Sent
+pub mod Table

@@ -12,6 +12,8 @@ ghost use Rattle.plan_definition.specs.Rules.{injector};
 ghost use Rattle.brine_definition.specs.Count.{sum};
 ghost use Rattle.brine_definition.specs.Page.{spareOf, rowWhen, saysSound, sound, rows};
 ghost use Rattle.brine_definition.specs.Statement.{intakes, spares, belowZero, statementOf, brineRefusals, brineOutcome};
+ghost use Rattle.plan_places.specs.Places.{placed};
+ghost use Rattle.brine_sheet.specs.Table.{placedIf, tableAfter};
 ghost use Rattle.brine_sheet.specs.Sent.{Named, AllNamed, broughtTo, sentTo, Added, Takes};
 use brine_definition::KILOGRAMS;
 use brine_definition::Statement;
@@ -125,7 +127,7 @@ fn sound_sheet(
     spare: &mut [i64],
 ) -> Statement
     requires { ⌜ (n ≤ 1024) × (40 * n ≤ length (now sheet)) × (sound (wells n (now sheet)) ≡ true) × (now intake ≡ replicate n 0) × (length (now spare) ≡ n) ⌝ }
-    ensures { λ r. ⌜ (r ≡ statementOf (wells n (now (sheet .entry)) ∷ [])) × (now (intake .exit) ≡ intakes (rows (wells n (now (sheet .entry))))) × (now (spare .exit) ≡ spares (rows (wells n (now (sheet .entry))))) ⌝ }
+    ensures { λ r. ⌜ (r ≡ statementOf (wells n (now (sheet .entry)) ∷ [])) × (now (intake .exit) ≡ intakes (rows (wells n (now (sheet .entry))))) × (now (spare .exit) ≡ spares (rows (wells n (now (sheet .entry))))) × (now (places .exit) ≡ placed (now (sheet .entry)) n (now (places .entry))) ⌝ }
 {
     plan_places::put(sheet, n, places);
     send_all(sheet, n, places, intake);
@@ -165,7 +167,7 @@ fn page(
     spare: &mut [i64],
 ) -> Statement
     requires { ⌜ (n ≤ 1024) × (40 * n ≤ length (now sheet)) × (length (now intake) ≡ n) × (length (now spare) ≡ n) ⌝ }
-    ensures { λ r. ⌜ (r ≡ statementOf (wells n (now (sheet .entry)) ∷ [])) × (now (intake .exit) ≡ intakes (rows (wells n (now (sheet .entry))))) × (now (spare .exit) ≡ spares (rows (wells n (now (sheet .entry))))) ⌝ }
+    ensures { λ r. ⌜ (r ≡ statementOf (wells n (now (sheet .entry)) ∷ [])) × (now (intake .exit) ≡ intakes (rows (wells n (now (sheet .entry))))) × (now (spare .exit) ≡ spares (rows (wells n (now (sheet .entry))))) × (now (places .exit) ≡ placedIf (sound (wells n (now (sheet .entry)))) (now (sheet .entry)) n (now (places .entry))) ⌝ }
 {
     clear(intake, spare);
     if says_sound(plan::check(sheet, n)) {
@@ -191,7 +193,8 @@ fn judged(sheet: usize, n: usize, intake: usize, spare: usize) -> u64
     DONE
 }
 
-// The brine statement over a batch of this sheet alone. The table is for its own use: what it holds before doesn't matter.
+// The brine statement over a batch of this sheet alone. The table is lent so that a batch has one for all its sheets;
+// what it holds before doesn't matter.
 pub fn statement(
     sheet: &[u8],
     n: usize,
@@ -199,7 +202,7 @@ pub fn statement(
     intake: &mut [u64],
     spare: &mut [i64],
 ) -> Statement
-    ensures { λ r. ⌜ record { answer = r; intake = now (intake .exit); spare = now (spare .exit) } ≡ brineOutcome (now (sheet .entry)) (n ∷ []) (now (intake .entry)) (now (spare .entry)) ⌝ }
+    ensures { λ r. ⌜ (record { answer = r; intake = now (intake .exit); spare = now (spare .exit) } ≡ brineOutcome (now (sheet .entry)) (n ∷ []) (now (intake .entry)) (now (spare .entry))) × (now (places .exit) ≡ tableAfter (now (sheet .entry)) n (length (now (intake .entry))) (length (now (spare .entry))) (now (places .entry))) ⌝ }
 {
     let number = judged(sheet.len(), n, intake.len(), spare.len());
     if number != DONE {

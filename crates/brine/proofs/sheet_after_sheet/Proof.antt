@@ -61,7 +61,7 @@ added c =
     let b = turn c .before in
     let l = b .loop in
     one-more (start b .pre) (l .inv) (turn c .loop-test .taken) _
-    (rw (to-the-end (40 * l .at) (now (start b .args .sheets)), to-the-end (l .at) (l .intake), to-the-end (l .at) (l .spare)) at (c .statement .ensures))
+    (rw (to-the-end (40 * l .at) (now (start b .args .sheets)), to-the-end (l .at) (l .intake), to-the-end (l .at) (l .spare)) at (c .statement .ensures .0))
 
 -- no total passes the batch's, which fit
 small : (c : tie.After-statement Inv-loop μ-loop) → AnswerFits (plus (so-far (turn c .before)) (c .statement .result))

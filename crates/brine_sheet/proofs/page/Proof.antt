@@ -8,6 +8,7 @@ use lib.IntN.{pos}
 use Rattle.plan_definition.specs.Well.{wells}
 use Rattle.brine_definition.specs.Page.{sound}
 use Rattle.brine_definition.proofs.Sound.{faulted-intakes, faulted-spares, length-wells}
+use Rattle.brine_sheet.specs.Table.{placedIf}
 use Rattle.brine_sheet.proofs.Alone.{says, faulted-alone}
 use Rattle.brine_sheet.proofs.page.Statement.{statement}
 use Rattle.brine_sheet.proofs.page.Tie as tie
@@ -40,9 +41,15 @@ sound-sheet-requires c κs =
     (s .pre .0, s .pre .1, sym (sound-or-not (t .before)) ∙ t .if1 .taken, zeros z .0, ap length (zeros z .1) ∙ length-replicate (s .args .n) (pos 0))
 
 returns : tie.Need-returns
-returns c = c .before .before .before .sound-sheet .ensures
+unfolding placedIf
+returns c =
+    let p = c .before .before .before in
+    let t = p .before .before .before .before in
+    let e = p .sound-sheet .ensures in
+    (e .0, e .1, e .2, rw (sym (sound-or-not (t .before)) ∙ t .if1 .taken) (e .3))
 
 returns-2 : tie.Need-returns-2
+unfolding placedIf
 returns-2 c =
     let e = c .before in
     let z = cleared (e .before .before) in
@@ -52,6 +59,7 @@ returns-2 c =
       c .bare .ensures ∙ faulted-alone ws f,
       zeros z .0 ∙ rw (faulted-intakes ws f, length-wells (a .n) (now (a .sheet))),
       zeros z .1 ∙ rw (faulted-spares ws f, length-wells (a .n) (now (a .sheet))),
+      rw f,
     )
 
 pub page-spec : {M : Type 1} → statement M

@@ -10,15 +10,18 @@ use lib.Seq.{length-take-le}
 use Rattle.definition.proofs.Refusals.{not-done}
 use Rattle.brine_definition.specs.Statement.{refusedBy, brineOutcome}
 use Rattle.brine_definition.proofs.Outcomes.{given}
+use Rattle.definition.specs.Refusal.{whenDone}
+use Rattle.brine_sheet.specs.Table.{tableAfter}
 use Rattle.brine_sheet.proofs.Alone.{room-alone, done-alone}
 use Rattle.brine_sheet.proofs.statement.Statement.{statement}
 use Rattle.brine_sheet.proofs.statement.Tie as tie
 
 returns : tie.Need-returns
-unfolding brineOutcome refusedBy
+unfolding brineOutcome refusedBy tableAfter
 returns c =
     let j = c .before .before in
-    rw (c .bare .ensures, ← j .judged .ensures) (sym (not-done (j .judged .result) _ _ (c .before .if1 .taken)))
+    rw (c .bare .ensures, ← j .judged .ensures)
+    (sym (not-done (j .judged .result) _ _ (c .before .if1 .taken)), sym (not-done (j .judged .result) _ _ (c .before .if1 .taken)))
 
 -- where the function was entered
 abbrev start : tie.After-judged → tie.Start
@@ -40,11 +43,13 @@ page-requires c κs =
     (r .0, r .1, length-take-le _ _ (r .2), length-take-le _ _ (r .3))
 
 returns-2 : tie.Need-returns-2
+unfolding tableAfter whenDone
 returns-2 c =
     let p = c .before .before .before in
     let e = p .before .before .before .before in
     let a = start (e .before) .args in
-    rw (done-alone (a .n) (now (a .sheet)) (now (a .intake)) (now (a .spare)) (allowed e), p .page .ensures .0, p .page .ensures .1, p .page .ensures .2)
+    let f = p .page .ensures in
+    (rw (done-alone (a .n) (now (a .sheet)) (now (a .intake)) (now (a .spare)) (allowed e), f .0, f .1, f .2), rw (allowed e) (f .3))
 
 pub statement-spec : {M : Type 1} → statement M
 statement-spec =
