@@ -31,13 +31,7 @@ fn judge(sheets: usize, counts: &[usize], intake: usize, spare: usize) -> u64
     if sheets < RECORD * total {
         return sheet_judge::SHEET;
     }
-    if intake < total {
-        return brine_sheet::LIST;
-    }
-    if spare < total {
-        return brine_sheet::LIST;
-    }
-    sheet_judge::DONE
+    brine_sheet::listed(intake, spare, total)
 }
 
 // Where nothing is refused. Each sheet's bytes and places begin where those of the sheets before it end, faulted or not.

@@ -48,13 +48,16 @@ statementOf wss =
 unfoldable pub refusedBy : (number : ℕ) → Statement
 refusedBy number = record { number = number; sound = 0; faulted = 0; intake = 0; overloaded = 0 }
 
--- "Refusals: 13 BATCH (more than 64 sheets), then 5 (any count over 1,024, or buffer under 40 bytes for each record), then 25 LIST (either
--- list shorter than the records of the batch)." Lengths stand for the buffers.
+-- "25 LIST (either list shorter than the records of the batch)". Lengths stand for the buffers
+abbrev pub listRefusal : (records intake spare : ℕ) → Refusal
+listRefusal records intake spare = (LIST, ltb intake records || ltb spare records)
+
+-- "Refusals: 13 BATCH (more than 64 sheets), then 5 (any count over 1,024, or buffer under 40 bytes for each record), then 25 LIST .."
 unfoldable pub brineRefusals : (sheets : ℕ) → (counts : List ℕ) → (intake spare : ℕ) → List Refusal
 brineRefusals sheets counts intake spare =
     (BATCH, ltb 64 (length counts))
     ∷ (SHEET, some (ltb most) counts || ltb sheets (recordBytes * sum counts))
-    ∷ (LIST, ltb intake (sum counts) || ltb spare (sum counts))
+    ∷ listRefusal (sum counts) intake spare
     ∷ []
 
 pub record BrineOutcome : Type 0 where

@@ -1,14 +1,14 @@
 -- A batch of one sheet: its refusals are the sheet's own and that of short lists, and where none is given the sheet's rows are its page.
 -- Assumes nothing.
 use mathlib.Core.Path.{_≡_, ap, _∙_}
-use mathlib.Core.Bool.{false, _||_, or-false}
+use mathlib.Core.Bool.{false, or-false}
 use mathlib.Core.List.{List, [], _∷_, _++_, append-nil}
 use Prim.Native.Nat.{ℕ, _+_, _*_, _≤_}
 use native.Mathlib.Omega.{arith}
 use lib.Dec.{ltb}
 use lib.IntN.{ℤ}
 use lib.ListN.{length, drop}
-use Rattle.definition.specs.Refusal.{LIST, pick, firstOf, whenDone}
+use Rattle.definition.specs.Refusal.{pick, firstOf, whenDone}
 use Rattle.sheet_definition.specs.Sheet.{sheetRefusal}
 use Rattle.plan_definition.specs.declared.Well.{Well}
 use Rattle.plan_definition.specs.declared.Verdict.{Verdict}
@@ -20,7 +20,7 @@ use Rattle.plan_definition.proofs.Verdicts.{room}
 use Rattle.brine_definition.specs.declared.Statement.{Statement}
 use Rattle.brine_definition.specs.Count.{sum, count}
 use Rattle.brine_definition.specs.Page.{saysSound, sound, rows}
-use Rattle.brine_definition.specs.Statement.{batch, page, intakes, spares, statementOf, brineRefusals, brineOutcome}
+use Rattle.brine_definition.specs.Statement.{batch, page, intakes, spares, statementOf, listRefusal, brineRefusals, brineOutcome}
 use Rattle.brine_definition.proofs.Sums.{sum-zeros}
 use Rattle.brine_definition.proofs.Sound.{faulted-intakes, faulted-spares}
 use Rattle.brine_definition.proofs.Faulted.{none-below}
@@ -28,7 +28,7 @@ use Rattle.brine_definition.proofs.Outcomes.{given, done}
 use Rattle.brine_definition.proofs.Refused.{none-refused}
 
 pub alone : (sheet n intake spare : ℕ)
-    → firstOf (brineRefusals sheet (n ∷ []) intake spare) ≡ firstOf (sheetRefusal n sheet ∷ (LIST, ltb intake n || ltb spare n) ∷ [])
+    → firstOf (brineRefusals sheet (n ∷ []) intake spare) ≡ firstOf (sheetRefusal n sheet ∷ listRefusal n intake spare ∷ [])
 unfolding brineRefusals sheetRefusal some sum firstOf pick
 alone sheet n intake spare = let e : n + 0 ≡ n = omega arith in rw (e, or-false (ltb 1024 n))
 

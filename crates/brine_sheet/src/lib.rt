@@ -11,8 +11,9 @@ ghost use Rattle.plan_definition.specs.Well.{wells};
 ghost use Rattle.plan_definition.specs.Rules.{injector};
 ghost use Rattle.brine_definition.specs.Count.{sum};
 ghost use Rattle.brine_definition.specs.Page.{spareOf, rowWhen, saysSound, sound, rows};
-ghost use Rattle.brine_definition.specs.Statement.{intakes, spares, belowZero, statementOf, brineRefusals, brineOutcome};
+ghost use Rattle.brine_definition.specs.Statement.{intakes, spares, belowZero, statementOf, listRefusal, brineRefusals, brineOutcome};
 ghost use Rattle.plan_places.specs.Places.{placed};
+ghost use Rattle.brine_sheet.specs.Stated.{Stated};
 ghost use Rattle.brine_sheet.specs.Table.{placedIf, tableAfter};
 ghost use Rattle.brine_sheet.specs.Sent.{Named, AllNamed, broughtTo, sentTo, Added, Takes};
 use brine_definition::KILOGRAMS;
@@ -25,7 +26,7 @@ use plan_definition::Well;
 use sheet_judge::DONE;
 
 // The refusal that the statement adds to the sheet's: a list shorter than the records.
-pub const LIST: u64 = 25;
+const LIST: u64 = 25;
 
 // Zeros in both lists.
 fn clear(intake: &mut [u64], spare: &mut [i64])
@@ -127,7 +128,7 @@ fn sound_sheet(
     spare: &mut [i64],
 ) -> Statement
     requires { ⌜ (n ≤ 1024) × (40 * n ≤ length (now sheet)) × (sound (wells n (now sheet)) ≡ true) × (now intake ≡ replicate n 0) × (length (now spare) ≡ n) ⌝ }
-    ensures { λ r. ⌜ (r ≡ statementOf (wells n (now (sheet .entry)) ∷ [])) × (now (intake .exit) ≡ intakes (rows (wells n (now (sheet .entry))))) × (now (spare .exit) ≡ spares (rows (wells n (now (sheet .entry))))) × (now (places .exit) ≡ placed (now (sheet .entry)) n (now (places .entry))) ⌝ }
+    ensures { λ r. ⌜ Stated (wells n (now (sheet .entry))) r (now (intake .exit)) (now (spare .exit)) × (now (places .exit) ≡ placed (now (sheet .entry)) n (now (places .entry))) ⌝ }
 {
     plan_places::put(sheet, n, places);
     send_all(sheet, n, places, intake);
@@ -167,13 +168,26 @@ fn page(
     spare: &mut [i64],
 ) -> Statement
     requires { ⌜ (n ≤ 1024) × (40 * n ≤ length (now sheet)) × (length (now intake) ≡ n) × (length (now spare) ≡ n) ⌝ }
-    ensures { λ r. ⌜ (r ≡ statementOf (wells n (now (sheet .entry)) ∷ [])) × (now (intake .exit) ≡ intakes (rows (wells n (now (sheet .entry))))) × (now (spare .exit) ≡ spares (rows (wells n (now (sheet .entry))))) × (now (places .exit) ≡ placedIf (sound (wells n (now (sheet .entry)))) (now (sheet .entry)) n (now (places .entry))) ⌝ }
+    ensures { λ r. ⌜ Stated (wells n (now (sheet .entry))) r (now (intake .exit)) (now (spare .exit)) × (now (places .exit) ≡ placedIf (sound (wells n (now (sheet .entry)))) (now (sheet .entry)) n (now (places .entry))) ⌝ }
 {
     clear(intake, spare);
     if says_sound(plan::check(sheet, n)) {
         return sound_sheet(sheet, n, places, intake, spare);
     }
     bare(DONE, 1)
+}
+
+// Refusal 25 alone: whether both lists have a place for each of so many records.
+pub fn listed(intake: usize, spare: usize, records: usize) -> u64
+    ensures { λ r. ⌜ r ≡ firstOf (listRefusal records intake spare ∷ []) ⌝ }
+{
+    if intake < records {
+        return LIST;
+    }
+    if spare < records {
+        return LIST;
+    }
+    DONE
 }
 
 // The first refusal of a batch of one sheet, from its numbers alone.
@@ -184,13 +198,7 @@ fn judged(sheet: usize, n: usize, intake: usize, spare: usize) -> u64
     if five != DONE {
         return five;
     }
-    if intake < n {
-        return LIST;
-    }
-    if spare < n {
-        return LIST;
-    }
-    DONE
+    listed(intake, spare, n)
 }
 
 // The brine statement over a batch of this sheet alone. The table is lent so that a batch has one for all its sheets;

@@ -46,7 +46,7 @@ returns c =
     let p = c .before .before .before in
     let t = p .before .before .before .before in
     let e = p .sound-sheet .ensures in
-    (e .0, e .1, e .2, rw (sym (sound-or-not (t .before)) ∙ t .if1 .taken) (e .3))
+    (e .0, rw (sym (sound-or-not (t .before)) ∙ t .if1 .taken) (e .1))
 
 returns-2 : tie.Need-returns-2
 unfolding placedIf
@@ -55,15 +55,15 @@ returns-2 c =
     let z = cleared (e .before .before) in
     let a = start z .args in
     let ws = wells (a .n) (now (a .sheet)) in
-    let f = sym (sound-or-not (e .before)) ∙ e .if1 .left in (
-      c .bare .ensures ∙ faulted-alone ws f,
-      zeros z .0 ∙ rw (faulted-intakes ws f, length-wells (a .n) (now (a .sheet))),
-      zeros z .1 ∙ rw (faulted-spares ws f, length-wells (a .n) (now (a .sheet))),
-      rw f,
-    )
+    let f = sym (sound-or-not (e .before)) ∙ e .if1 .left in
+    let long = length-wells (a .n) (now (a .sheet)) in
+    ((c .bare .ensures ∙ faulted-alone ws f, zeros z .0 ∙ rw (faulted-intakes ws f, long), zeros z .1 ∙ rw (faulted-spares ws f, long)), rw f)
+
+clear-requires : tie.Need-clear-requires
+clear-requires c κs = let s = c .before .before .before .before in s .pre .3 ∙ sym (s .pre .2)
 
 pub page-spec : {M : Type 1} → statement M
 page-spec =
     tie.close
-    (tie.spec (λ c κs. let s = c .before .before .before .before in s .pre .3 ∙ sym (s .pre .2)) (λ c κs. tt) (λ c κs. tt) sound-sheet-requires (λ c. search needs) (λ c. search needs) returns (λ c κs. tt) (λ c. search needs)
-    (λ c. search needs) returns-2)
+    (tie.spec clear-requires (λ c κs. tt) (λ c κs. tt) sound-sheet-requires (λ c. search needs) (λ c. search needs) returns (λ c κs. tt)
+    (λ c. search needs) (λ c. search needs) returns-2)

@@ -57,7 +57,7 @@ settle-requires c κs =
 returns : tie.Need-returns
 returns c =
     let d = c .before .before .before .before .before .before in
-    (c .before .settle .ensures .0, sent d, c .before .settle .ensures .1, d .before .before .before .put .ensures .0)
+    ((c .before .settle .ensures .0, sent d, c .before .settle .ensures .1), d .before .before .before .put .ensures .0)
 
 pub sound-sheet-spec : {M : Type 1} → statement M
 sound-sheet-spec =

@@ -49,7 +49,7 @@ returns-2 c =
     let e = p .before .before .before .before in
     let a = start (e .before) .args in
     let f = p .page .ensures in
-    (rw (done-alone (a .n) (now (a .sheet)) (now (a .intake)) (now (a .spare)) (allowed e), f .0, f .1, f .2), rw (allowed e) (f .3))
+    (rw (done-alone (a .n) (now (a .sheet)) (now (a .intake)) (now (a .spare)) (allowed e), f .0 .0, f .0 .1, f .0 .2), rw (allowed e) (f .1))
 
 pub statement-spec : {M : Type 1} → statement M
 statement-spec =
