@@ -33,7 +33,8 @@ unfolding brineRefusals sheetRefusal some sum firstOf pick
 alone sheet n intake spare = let e : n + 0 ≡ n = omega arith in rw (e, or-false (ltb 1024 n))
 
 -- where the sheet has room for its records the check says whether it is sound
-pub says : (n : ℕ) (sheet : List ℕ) (v : Verdict) → n ≤ 1024 → 40 * n ≤ length sheet → v ≡ verdict sheet n → saysSound v ≡ sound (wells n sheet)
+pub says : (n : ℕ) (sheet : List ℕ) (v : Verdict) → n ≤ 1024 → 40 * n ≤ length sheet → v ≡ verdict sheet n
+    → saysSound v ≡ sound (wells n sheet)
 unfolding verdict whenDone sound
 says n sheet v few fits e = ap saysSound (e ∙ rw (room n (length sheet) .1 (few, fits)))
 

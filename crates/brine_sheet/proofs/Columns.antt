@@ -39,7 +39,9 @@ module _ {n : ℕ} {sheet t : List ℕ} (g : Given n sheet t) where
   unfolding Takes
   sends-fit q l =
       let h : q < n = omega (arith, length-replicate {A = ℕ} n 0) in
-      let most = pick-most (injector (wellAt q sheet)) _ (100000000 * length (wells n sheet)) (λ e. intake-most (wells n sheet) (g .sound) (wellAt q sheet .number)) in
+      let ws = wells n sheet in
+      let w = wellAt q sheet in
+      let most = pick-most (injector w) _ (100000000 * length ws) (λ e. intake-most ws (g .sound) (w .number)) in
       omega (arith, getD-replicate {A = ℕ} n q 0 0 h, sent-there g q h, most, length-wells n sheet, g .few)
 
   -- and what they become are the page's intakes

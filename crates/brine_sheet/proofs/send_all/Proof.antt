@@ -71,8 +71,10 @@ takes : (c : tie.After-read Inv-loop μ-loop) → c .read .result .kind ≡ 1 �
     Takes (broughtTo (now (start (c .before) .args .places)) (w .rate) (slice 0 (w .count) (w .links))) (c .before .before .loop .intake)
 unfolding Takes
 takes c e q h =
-    let a = start (c .before) .args in
-    omega (arith, start (c .before) .pre .2 q (rw (← c .before .before .loop .inv .1) h), step c q, sent-producer (now (a .places)) (c .read .result) (left (suc (c .before .before .loop .i)) (a .n) (now (a .sheet))) q e)
+    let s = start (c .before) in
+    let l = c .before .before .loop in
+    let ws = left (suc (l .i)) (s .args .n) (now (s .args .sheet)) in
+    omega (arith, s .pre .2 q (rw (← l .inv .1) h), step c q, sent-producer (now (s .args .places)) (c .read .result) ws q e)
 
 send-requires : tie.Need-send-requires Inv-loop μ-loop
 send-requires c κs =
@@ -111,5 +113,5 @@ returns c =
 pub send-all-spec : {M : Type 1} → statement M
 send-all-spec =
     tie.close
-    (tie.spec Inv-loop μ-loop loop-holds (λ c κs. tt) (λ c. search needs) (λ c. search needs) send-requires (λ c. omega arith) (λ c. omega arith) loop-again
-    (λ c. c .before .loop .inv .1) returns)
+    (tie.spec Inv-loop μ-loop loop-holds (λ c κs. tt) (λ c. search needs) (λ c. search needs) send-requires (λ c. omega arith) (λ c. omega arith)
+    loop-again (λ c. c .before .loop .inv .1) returns)

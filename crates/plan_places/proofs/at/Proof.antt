@@ -8,4 +8,5 @@ use Rattle.plan_places.proofs.at.Tie as tie
 pub at-spec : {M : Type 1} → statement M
 at-spec =
     tie.close
-    (tie.spec (λ c. search needs) (λ c. search needs) (λ c. omega (arith, c .shared-slice-known .given (c .before .before .args .number))) (λ c. search needs))
+    (tie.spec (λ c. search needs) (λ c. search needs)
+    (λ c. omega (arith, c .shared-slice-known .given (c .before .before .args .number))) (λ c. search needs))
