@@ -9,7 +9,7 @@ use Rattle.brine_definition.specs.declared.Statement.{Statement}
 use Rattle.brine_definition.specs.Count.{sum, count}
 use Rattle.brine_definition.specs.Statement.{page, intakes, spares, belowZero, statementOf}
 use Rattle.brine_definition.proofs.Sums.{page-intakes, page-spares}
-use Rattle.brine_definition.proofs.Figures.{AnswerFits}
+use Rattle.brine_definition.specs.Said.{AnswerFits}
 
 -- the totals of some sheets with those of others
 abbrev pub plus : (a b : Statement) → Statement

@@ -9,20 +9,15 @@ use lib.IntN.{ℤ, pos}
 use lib.ListN.{length, replicate}
 use Rattle.definition.specs.Refusal.{pick}
 use Rattle.plan_definition.specs.declared.Well.{Well}
-use Rattle.brine_definition.specs.declared.Statement.{Statement}
 use Rattle.brine_definition.specs.Count.{count}
 use Rattle.brine_definition.specs.Page.{sound}
 use Rattle.brine_definition.specs.Statement.{batch, page, belowZero, statementOf, brineOutcome}
+use Rattle.brine_definition.specs.Said.{OneMore, Alike}
+use Rattle.brine_definition.specs.Said.Alike.{none, equal, faulted}
 use Rattle.brine_definition.proofs.Sums.{sum-zeros, page-intakes, page-spares}
 use Rattle.brine_definition.proofs.Sound.{faulted-rows, faulted-intakes, faulted-spares}
 
--- an answer that has one faulted sheet more
-pub record OneMore (more less : Statement) : Type 0 where
-  pub sound : more .sound ≡ less .sound
-  pub faulted : more .faulted ≡ suc (less .faulted)
-  pub intake : more .intake ≡ less .intake
-  pub overloaded : more .overloaded ≡ less .overloaded
-
+-- zeros are not below zero
 pub none-below : (n : ℕ) → count belowZero (replicate n (pos 0)) ≡ 0
 unfolding count belowZero pick
 none-below zero = refl
@@ -47,14 +42,7 @@ module _ (ws : List Well) (e : sound ws ≡ false) where
         overloaded = omega (arith, page-spares v (front ++ ws ∷ back) belowZero, page-spares v (front ++ back) belowZero);
       }
 
--- two batches that differ only within sheets that stay faulted
-pub data Alike : List (List Well) → List (List Well) → Type 0 where
-  none : Alike [] []
-  equal : {ws : List Well} {a b : List (List Well)} → Alike a b → Alike (ws ∷ a) (ws ∷ b)
-  faulted : {vs ws : List Well} {a b : List (List Well)} → sound vs ≡ false → sound ws ≡ false → length vs ≡ length ws → Alike a b
-      → Alike (vs ∷ a) (ws ∷ b)
-
--- have one page, and as many sound sheets and as many faulted
+-- two batches that differ only within sheets that stay faulted have one page, and as many sound sheets and as many faulted
 same-page : {a b : List (List Well)} → Alike a b → page a ≡ page b
 unfolding page
 same-page none = refl

@@ -17,12 +17,12 @@ use Rattle.plan_definition.specs.Some.Among.{here, later}
 use Rattle.plan_definition.specs.Well.{wells}
 use Rattle.plan_definition.specs.Rules.{injector}
 use Rattle.plan_definition.specs.Sound.{Sound, KeepsRate}
-use Rattle.brine_definition.specs.declared.Statement.{Statement}
 use Rattle.brine_definition.specs.Count.{sum}
 use Rattle.brine_definition.specs.Page.{Row, rowOf, rowWhen, sound, rows, intakeFrom}
 use Rattle.brine_definition.specs.Statement.{batch, page, spares, belowZero, statementOf}
+use Rattle.brine_definition.specs.Said.{noRow, AnswerFits}
 use Rattle.brine_definition.proofs.Sums.{count-most, length-spares}
-use Rattle.brine_definition.proofs.Sound.{noRow, sound-exactly, length-wells, length-batch, length-page}
+use Rattle.brine_definition.proofs.Sound.{sound-exactly, length-wells, length-batch, length-page}
 use Rattle.brine_definition.proofs.Bounds.{intake-most}
 use Rattle.brine_definition.proofs.Conserved.{total-most}
 use Rattle.brine_definition.proofs.Spare.{spare-within}
@@ -31,12 +31,6 @@ use Rattle.brine_definition.proofs.Totals.{each-counted}
 use Rattle.brine_definition.proofs.Refused.{none-refused}
 
 -- the answer's figures within 64 bits
-pub record AnswerFits (a : Statement) : Type 0 where
-  pub sound : a .sound < 2 ^ 64
-  pub faulted : a .faulted < 2 ^ 64
-  pub intake : a .intake < 2 ^ 64
-  pub overloaded : a .overloaded < 2 ^ 64
-
 -- both figures of a row are within a bound
 abbrev Within : ℕ → Row → Type 0
 Within m r = (r .intake ≤ m) × (mag (r .spare) ≤ m)

@@ -15,12 +15,13 @@ use Rattle.plan_definition.proofs.Instances.{plan, plan-sound}
 use Rattle.brine_definition.specs.Count.{sum}
 use Rattle.brine_definition.specs.Page.{rows}
 use Rattle.brine_definition.specs.Statement.{batch, intakes, statementOf, brineOutcome}
+use Rattle.brine_definition.specs.Said.{before, AnswerFits, OneMore}
+use Rattle.brine_definition.specs.Said.Alike.{none, equal, faulted}
 use Rattle.brine_definition.proofs.Conserved.{conserved}
 use Rattle.brine_definition.proofs.Outcomes.{given}
-use Rattle.brine_definition.proofs.Rows.{before, spare-at}
-use Rattle.brine_definition.proofs.Figures.{AnswerFits, answer-fits}
-use Rattle.brine_definition.proofs.Faulted.{OneMore, own-count-only, content-unread}
-use Rattle.brine_definition.proofs.Faulted.Alike.{none, equal, faulted}
+use Rattle.brine_definition.proofs.Rows.{spare-at}
+use Rattle.brine_definition.proofs.Figures.{answer-fits}
+use Rattle.brine_definition.proofs.Faulted.{own-count-only, content-unread}
 use Rattle.brine_definition.proofs.Computed.{everything}
 
 -- the plan of the check's instances, a producer of 100 tonnes and its injector: conserved

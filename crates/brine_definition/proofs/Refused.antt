@@ -5,7 +5,7 @@ use mathlib.Core.Path.{_≡_, refl, sym, _∙_}
 use mathlib.Core.Logic.{_↔_, Iff·trans, _⊎_, inl, inr, ⊎-elim}
 use mathlib.Core.Bool.{Bool, true, false, _||_}
 use mathlib.Core.List.{List, [], _∷_, _++_}
-use Prim.Native.Nat.{ℕ, zero, suc, _*_, _<_, _≤_}
+use Prim.Native.Nat.{ℕ, zero, suc, _*_, _≤_}
 use native.Mathlib.Omega.{arith}
 use lib.Dec.{ltb}
 use lib.IntN.{ℤ}
@@ -17,10 +17,11 @@ use Rattle.definition.proofs.Refusals.{First, NoneHolds, first-given, given-fir
 use Rattle.definition.proofs.Refusals.First.{here, later}
 use Rattle.definition.proofs.Refusals.NoneHolds.{none, more}
 use Rattle.definition.proofs.Refusals.Numbered.{none as no-more, more as one-more}
-use Rattle.plan_definition.specs.Some.{some, Among}
+use Rattle.plan_definition.specs.Some.{some}
 use Rattle.plan_definition.proofs.Exactly.{Passes, Fails, less, not-less, either, neither, one-passes, none-passes}
 use Rattle.brine_definition.specs.Count.{sum}
 use Rattle.brine_definition.specs.Statement.{batch, page, intakes, spares, brineRefusals, brineOutcome}
+use Rattle.brine_definition.specs.Said.{TooMany, Few, NoRoom, Room, Short, Long}
 use Rattle.brine_definition.proofs.Sums.{length-intakes, length-spares}
 use Rattle.brine_definition.proofs.Sound.{length-page}
 use Rattle.brine_definition.proofs.Outcomes.{given, done, refused}
@@ -52,27 +53,6 @@ module _ {n : ℕ} {b : Bool} {A : Type 0} (p : Fails b A) where
 
   last-fails : NoneHolds ((n, b) ∷ []) ↔ A
   last-fails = (λ h. p .0 (none-of h .0), λ a. rw (p .1 a) (more none))
-
--- "more than 64 sheets", or no more
-abbrev pub TooMany : (counts : List ℕ) → Type 0
-TooMany counts = 64 < length counts
-
-abbrev pub Few : (counts : List ℕ) → Type 0
-Few counts = length counts ≤ 64
-
--- "any count over 1,024, or buffer under 40 bytes for each record", or neither
-abbrev pub NoRoom : (sheets : ℕ) → (counts : List ℕ) → Type 0
-NoRoom sheets counts = ((n : ℕ) × Among n counts × (1024 < n)) ⊎ (sheets < 40 * sum counts)
-
-abbrev pub Room : (sheets : ℕ) → (counts : List ℕ) → Type 0
-Room sheets counts = ((n : ℕ) → Among n counts → n ≤ 1024) × (40 * sum counts ≤ sheets)
-
--- "either list shorter than the records of the batch", or neither
-abbrev pub Short : (counts : List ℕ) → (intake spare : ℕ) → Type 0
-Short counts intake spare = (intake < sum counts) ⊎ (spare < sum counts)
-
-abbrev pub Long : (counts : List ℕ) → (intake spare : ℕ) → Type 0
-Long counts intake spare = (sum counts ≤ intake) × (sum counts ≤ spare)
 
 module _ (sheets : ℕ) (counts : List ℕ) (intake spare : ℕ) where
   few : Fails (ltb 64 (length counts)) (Few counts)

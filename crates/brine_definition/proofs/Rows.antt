@@ -16,7 +16,8 @@ use Rattle.plan_definition.proofs.Places.{wellAt}
 use Rattle.brine_definition.specs.Count.{sum}
 use Rattle.brine_definition.specs.Page.{Row, rowOf, rowWhen, sound, rows}
 use Rattle.brine_definition.specs.Statement.{batch, page, intakes, spares, brineOutcome}
-use Rattle.brine_definition.proofs.Sound.{noRow, length-rows, length-wells, length-page}
+use Rattle.brine_definition.specs.Said.{before, sheetAt, rowAt, noRow}
+use Rattle.brine_definition.proofs.Sound.{length-rows, length-wells, length-page}
 use Rattle.brine_definition.proofs.Outcomes.{given, done}
 
 -- the well at a place of a sheet
@@ -40,12 +41,6 @@ map-at f (x ∷ l) zero a b h = refl
 map-at f (x ∷ l) (suc i) a b h = map-at f l i a b (omega arith)
 
 -- its row
-abbrev pub rowAt : (n i : ℕ) → (sheet : List ℕ) → Row
-rowAt n i sheet =
-    let ws : List Well = wells n sheet in
-    let w : Well = wellAt i sheet in
-    rowWhen (sound ws && injector w) (rowOf ws w)
-
 sheet-row : (n i : ℕ) (sheet : List ℕ) → i < n → getD (rows (wells n sheet)) i noRow ≡ rowAt n i sheet
 unfolding rows
 sheet-row n i sheet h =
@@ -53,13 +48,7 @@ sheet-row n i sheet h =
     map-at (λ w. rowWhen (sound ws && injector w) (rowOf ws w)) ws i (wellAt i sheet) noRow (omega (arith, length-wells n sheet))
     ∙ rw (well-at n i sheet (wellAt i sheet) h)
 
--- where sheet k begins: the records of those before it, and its bytes
-abbrev pub before : (counts : List ℕ) → (k : ℕ) → ℕ
-before counts k = sum (take k counts)
-
-abbrev pub sheetAt : (counts sheets : List ℕ) → (k : ℕ) → List ℕ
-sheetAt counts sheets k = drop (40 * before counts k) sheets
-
+-- the row of record i of sheet k
 pub row-at : (counts sheets : List ℕ) (k i : ℕ) → k < length counts → i < getD counts k 0
     → getD (page (batch counts sheets)) (before counts k + i) noRow ≡ rowAt (getD counts k 0) i (sheetAt counts sheets k)
 unfolding page batch sum

@@ -18,8 +18,9 @@ use Rattle.plan_definition.specs.Sound.{Sound as SoundSheet}
 use Rattle.plan_definition.specs.Check.{firstFault}
 use Rattle.plan_definition.proofs.Faults.{none-faulty}
 use Rattle.brine_definition.specs.Count.{sum}
-use Rattle.brine_definition.specs.Page.{Row, rowOf, rowWhen, saysSound, sound, rows}
+use Rattle.brine_definition.specs.Page.{rowOf, rowWhen, saysSound, sound, rows}
 use Rattle.brine_definition.specs.Statement.{batch, page, intakes, spares}
+use Rattle.brine_definition.specs.Said.{noRow}
 use Rattle.brine_definition.proofs.Sums.{map-replicate}
 
 says-sound : (v : Verdict) → (saysSound v ≡ true) ↔ (v ≡ Sound)
@@ -32,10 +33,6 @@ says-sound (Fault rule place) = (λ e. absurd (false≢true e), λ e. cc)
 pub sound-exactly : (ws : List Well) → (sound ws ≡ true) ↔ SoundSheet ws
 unfolding sound SoundSheet
 sound-exactly ws = Iff·trans (says-sound (firstFault ws ws)) (none-faulty ws ws)
-
--- a row of zeros
-abbrev pub noRow : Row
-noRow = record { intake = 0; spare = pos 0 }
 
 module _ (ws : List Well) (faulted : sound ws ≡ false) where
   -- any other has only rows of zeros

@@ -16,6 +16,7 @@ use Rattle.plan_definition.specs.Rules.{injector}
 use Rattle.brine_definition.specs.Count.{sum, count}
 use Rattle.brine_definition.specs.Page.{intakeFrom, rowOf, rowWhen, sound, rows, produced}
 use Rattle.brine_definition.specs.Statement.{batch, page, intakes, spares, belowZero, statementOf, brineOutcome}
+use Rattle.brine_definition.specs.Said.{overloadedIn}
 use Rattle.brine_definition.proofs.Sums.{count-not, page-intakes, page-spares}
 use Rattle.brine_definition.proofs.Conserved.{sheet-total}
 use Rattle.brine_definition.proofs.Spare.{spare-below}
@@ -34,10 +35,6 @@ total-intake [] sheets = refl
 total-intake (n ∷ ns) sheets =
     let rest = drop (40 * n) sheets in
     omega (arith, page-intakes (wells n sheets) (batch ns rest), sheet-total n sheets, total-intake ns rest)
-
--- an injector of a sound sheet that is sent over 1000 times its rate
-abbrev pub overloadedIn : List Well → Well → Bool
-overloadedIn ws w = sound ws && (injector w && ltb (1000 * w .rate) (intakeFrom ws (w .number)))
 
 row-below : (ws : List Well) (w : Well) (s i : Bool)
     → belowZero (rowWhen (s && i) (rowOf ws w) .spare) ≡ (s && (i && ltb (1000 * w .rate) (intakeFrom ws (w .number))))

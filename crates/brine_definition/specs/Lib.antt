@@ -2,3 +2,4 @@
 pub mod Count
 pub mod Page
 pub mod Statement
+pub mod Said

@@ -9,7 +9,8 @@ use borrow.Author.Needs.{needs}
 use denote.Ref.{now}
 use lib.ListN.{length, getD, take}
 use Rattle.brine_definition.specs.declared.Statement.{Statement}
-use Rattle.brine_definition.proofs.Figures.{AnswerFits, answer-fits}
+use Rattle.brine_definition.specs.Said.{AnswerFits}
+use Rattle.brine_definition.proofs.Figures.{answer-fits}
 use Rattle.brine.proofs.Filled.{to-the-end, none-behind}
 use Rattle.brine.proofs.Totals.{plus, part-fits}
 use Rattle.brine.proofs.Upto.{Upto, none-yet, all-done, next-fits, one-more}
