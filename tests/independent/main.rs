@@ -4,6 +4,7 @@
 //! content.
 
 mod check;
+mod check_plan;
 mod luffa;
 mod plan;
 mod sheet;
