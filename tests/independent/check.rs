@@ -4,9 +4,9 @@
 //! and E. For the sheet, values and formulas are document 01's. What document 02 says is checked in files
 //! beside this one.
 
-use crate::check_plan;
 use crate::luffa::*;
 use crate::sheet::{Record, Saved, Sheet, MARK_WORDS, MOST};
+use crate::{check_brine, check_plan};
 use std::fmt::Debug;
 
 /// The hash values of "abc" (Appendix C).
@@ -135,6 +135,7 @@ pub fn differences() -> Vec<String> {
     sheet_marks(&mut report, numbers);
     sheet_saves(&mut report, numbers);
     check_plan::differences(&mut report);
+    check_brine::differences(&mut report);
     report.0
 }
 

@@ -1,9 +1,11 @@
 //! A separately written Luffa program, to compare another one with. The hash is in luffa.rs; the
 //! four output lines are those of the digest program in the build requirements, `words` gives the
-//! longer outputs of section 5 of the Luffa specification 2.0.1, and `plan` is the check of a sheet's
-//! content.
+//! longer outputs of section 5 of the Luffa specification 2.0.1, `plan` is the check of a sheet's
+//! content, and `brine` the brine statement over a batch of sheets.
 
+mod brine;
 mod check;
+mod check_brine;
 mod check_plan;
 mod luffa;
 mod plan;
@@ -22,6 +24,7 @@ usage: independent               four digest lines for standard input
        independent words CODE N  the first N words of the final stage, and its blank rounds
        independent pieces        a digest for each line `CODE HEX` of standard input
        independent plan          whether the records on standard input are a sound sheet
+       independent brine COUNT.. the brine statement over sheets of so many records each
        independent check         checks itself against the specification";
 
 /// The house limit on message bytes.
@@ -38,6 +41,10 @@ fn main() -> ExitCode {
         },
         ["pieces"] => pieces(),
         ["plan"] => plan_fault(),
+        ["brine", ref counts @ ..] => match counts.iter().map(|n| n.parse()).collect() {
+            Ok(counts) => brine_page(counts),
+            Err(_) => return usage(),
+        },
         ["check"] => check_all(),
         _ => return usage(),
     };
@@ -187,6 +194,32 @@ fn plan_fault() -> io::Result<ExitCode> {
         return failed(&format!("{place} {rule}\n"));
     }
     print("sound\n")?;
+    Ok(ExitCode::SUCCESS)
+}
+
+fn brine_page(counts: Vec<usize>) -> io::Result<ExitCode> {
+    let most = brine::MOST_SHEETS * RECORD_BYTES * MOST;
+    let mut bytes = Vec::new();
+    input()?.take(most as u64).read_to_end(&mut bytes)?;
+    // What is printed needs no places.
+    let refusals = brine::refusals(bytes.len(), &counts, usize::MAX);
+    if let Some(number) = refusals.first() {
+        return failed(&format!("{number}\n"));
+    }
+    let sheets = brine::sheets(&bytes, &counts);
+    let page = brine::page(&sheets);
+    let mut figures = page.figures.iter();
+    let mut text = String::new();
+    for (k, wells) in sheets.iter().enumerate() {
+        for ((place, well), figures) in wells.iter().enumerate().zip(figures.by_ref()) {
+            if let Some(brine::Figures { intake, spare }) = figures {
+                text += &format!("{k} {place} {} {intake} {spare}\n", well.number);
+            }
+        }
+    }
+    text += &format!("sound {}\nfaulted {}\n", page.sound, page.faulted);
+    text += &format!("intake {}\noverloaded {}\n", page.intake, page.overloaded);
+    print(&text)?;
     Ok(ExitCode::SUCCESS)
 }
 
