@@ -5,7 +5,7 @@
 
 use crate::calls;
 use crate::luffa::CODES;
-use crate::met::Met;
+use crate::met::{answer_kinds, Met};
 use crate::model::digest_bytes;
 use crate::sheet::{Saved, Sheet, MARK_WORDS, MOST, RECORD_BYTES};
 use crate::sheet_model::{held, refusals, Answer, Call, Given};
@@ -18,15 +18,7 @@ impl Met {
     /// Counts what a call was: the number answered, and the refusals that hold.
     fn note(&mut self, call: Call, given: &Given, number: u64, hold: &[u64], false_marks: bool) {
         let (code, n) = (given.code, given.n);
-        self.see(format!("{call:?} answered {number}"));
-        if let [one] = hold {
-            self.see(format!("{call:?} with {one} alone"));
-        }
-        for (i, a) in hold.iter().enumerate() {
-            for b in &hold[i + 1..] {
-                self.see(format!("{call:?} with {a} and {b}"));
-            }
-        }
+        self.see_answer(&format!("{call:?}"), number, hold);
         let fits = |n| {
             let (sheet, marks) = (given.sheet.len(), given.marks.len());
             (sheet.cmp(&(RECORD_BYTES * n)), marks.cmp(&words_for(n)))
@@ -70,10 +62,7 @@ impl Met {
 pub fn print(met: &Met) -> Vec<String> {
     println!("sheet calls, by the number answered:");
     for call in CALLS {
-        let name = format!("{call:?}");
-        let times = |number| met.times(&format!("{call:?} answered {number}"));
-        let line = numbers_of(call).map(|number| format!(" {number}: {}", times(number)));
-        println!("  {name:<7}{}", line.collect::<String>());
+        met.print_answers(&format!("{call:?}"), numbers_of(call));
     }
     met.unmet(wanted())
 }
@@ -91,14 +80,13 @@ fn wanted() -> Vec<String> {
     .map(String::from)
     .into();
     for call in CALLS {
-        kinds.extend(numbers_of(call).map(|number| format!("{call:?} answered {number}")));
-        let refusals = || numbers_of(call).filter(|number| (1..=10).contains(number));
-        for a in refusals() {
-            kinds.push(format!("{call:?} with {a} alone"));
-            for b in refusals().filter(|&b| b > a) {
-                kinds.push(format!("{call:?} with {a} and {b}"));
-            }
-        }
+        let numbers = numbers_of(call);
+        let refusals: Vec<u64> = numbers
+            .iter()
+            .copied()
+            .filter(|n| (1..=10).contains(n))
+            .collect();
+        kinds.extend(answer_kinds(&format!("{call:?}"), numbers, &refusals));
         for n in EDGES {
             kinds.push(format!("{call:?} done, n = {n}"));
         }
@@ -137,14 +125,13 @@ const IMPOSSIBLE: [&str; 7] = [
 ];
 
 /// The numbers that document 01 lets a call give.
-fn numbers_of(call: Call) -> impl Iterator<Item = u64> {
-    let numbers: &[u64] = match call {
+fn numbers_of(call: Call) -> &'static [u64] {
+    match call {
         Call::Build => &[0, 1, 2, 5, 6],
         Call::Change => &[0, 1, 2, 5, 6, 7, 9, 10, 11],
         Call::Append => &[0, 1, 2, 5, 6, 8, 9, 10, 11],
         Call::Drop => &[0, 1, 2, 5, 6, 7, 10, 11],
-    };
-    numbers.iter().copied()
+    }
 }
 
 /// A sheet under way.

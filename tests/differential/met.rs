@@ -15,6 +15,26 @@ impl Met {
         self.0.get(kind).copied().unwrap_or(0)
     }
 
+    /// What a call answered, and which refusals held.
+    pub fn see_answer(&mut self, call: &str, number: u64, hold: &[u64]) {
+        self.see(format!("{call} answered {number}"));
+        if let [one] = hold {
+            self.see(format!("{call} with {one} alone"));
+        }
+        for (i, a) in hold.iter().enumerate() {
+            for b in &hold[i + 1..] {
+                self.see(format!("{call} with {a} and {b}"));
+            }
+        }
+    }
+
+    /// Prints how often a call answered each of these numbers.
+    pub fn print_answers(&self, call: &str, numbers: &[u64]) {
+        let times = |number| self.times(&format!("{call} answered {number}"));
+        let line = numbers.iter().map(|n| format!(" {n}: {}", times(n)));
+        println!("  {call:<7}{}", line.collect::<String>());
+    }
+
     /// Prints how often the rarest of these kinds came, and answers those that never did.
     pub fn unmet(&self, kinds: Vec<String>) -> Vec<String> {
         if let Some(rarest) = kinds.iter().min_by_key(|kind| self.times(kind)) {
@@ -24,4 +44,18 @@ impl Met {
         let unmet = kinds.into_iter().filter(|kind| self.times(kind) == 0);
         unmet.collect()
     }
+}
+
+/// What see_answer has to meet of a call: each number, and of the refusals that are judged together,
+/// given in their order, each alone and each two.
+pub fn answer_kinds(call: &str, numbers: &[u64], refusals: &[u64]) -> Vec<String> {
+    let mut kinds: Vec<String> = vec![];
+    kinds.extend(numbers.iter().map(|n| format!("{call} answered {n}")));
+    for (i, a) in refusals.iter().enumerate() {
+        kinds.push(format!("{call} with {a} alone"));
+        for b in &refusals[i + 1..] {
+            kinds.push(format!("{call} with {a} and {b}"));
+        }
+    }
+    kinds
 }
