@@ -77,7 +77,7 @@ struct Lent {
     before: usize,
 }
 
-/// The bytes watched on each side; on words, up to three more come before them.
+/// The bytes watched on each side; where elements stand at a multiple, a few more come before them.
 const EDGE: usize = 61;
 
 impl Lent {
@@ -93,11 +93,15 @@ impl Lent {
 
     /// Words, which must stand at a multiple of four.
     fn words(words: &[u32]) -> Lent {
-        let bytes: Vec<u8> = words.iter().flat_map(|word| word.to_ne_bytes()).collect();
-        (EDGE..EDGE + 4)
-            .map(|before| Lent::after(before, &bytes))
-            .find(|lent| lent.all[lent.before..].as_ptr() as usize % 4 == 0)
-            .expect("memory at a multiple of four")
+        Lent::elements(words.iter().map(|word| word.to_ne_bytes()).collect())
+    }
+
+    /// Elements of N bytes, which must stand at a multiple of N.
+    fn elements<const N: usize>(elements: Vec<[u8; N]>) -> Lent {
+        (EDGE..EDGE + N)
+            .map(|before| Lent::after(before, elements.as_flattened()))
+            .find(|lent| lent.all[lent.before..].as_ptr() as usize % N == 0)
+            .expect("memory at a multiple")
     }
 
     fn pointer(&mut self) -> *mut u8 {

@@ -11,7 +11,7 @@ use std::collections::BTreeSet;
 
 impl Numbers {
     /// A number of wells: few, or now and then as many as a sheet can have.
-    fn wells(&mut self) -> usize {
+    pub fn wells(&mut self) -> usize {
         match self.between(0, 99) {
             0 => self.between(1023, MOST),
             1 => self.between(30, 100),
@@ -21,7 +21,7 @@ impl Numbers {
     }
 
     /// Different well numbers: any, in a row, or such as differ in few bits only.
-    fn well_numbers(&mut self, n: usize) -> Vec<u16> {
+    pub fn well_numbers(&mut self, n: usize) -> Vec<u16> {
         let any = self.next() as u16;
         let first = self.one_of(&[any, any, 1, 250, 65_530]);
         let way = self.between(0, 2);
@@ -61,7 +61,7 @@ impl Numbers {
     }
 
     /// A producer with this many links to different ones of these injectors.
-    fn producer(&mut self, number: u16, count: usize, injectors: &[u16]) -> Well {
+    pub fn producer(&mut self, number: u16, count: usize, injectors: &[u16]) -> Well {
         let mut well = at_rest(number, PRODUCER);
         if count == 0 {
             return well;
@@ -76,7 +76,7 @@ impl Numbers {
     }
 
     /// A sound sheet. At times its injectors stand all before its producers, or all after them.
-    fn sound_wells(&mut self, n: usize) -> Vec<Well> {
+    pub fn sound_wells(&mut self, n: usize) -> Vec<Well> {
         let of_four = self.one_of(&[0, 1, 2, 2, 2, 3, 3, 4]);
         let kind = |k| if k < of_four { INJECTOR } else { PRODUCER };
         let mut kinds: Vec<u8> = (0..n).map(|_| kind(self.between(0, 3))).collect();
@@ -168,6 +168,23 @@ impl Numbers {
         }
     }
 
+    /// Mistypes a sheet so many times, often more than once at one place.
+    pub fn mistype_some(&mut self, wells: &mut [Well], times: usize) {
+        let n = wells.len();
+        if n == 0 {
+            return;
+        }
+        let mut place = self.some_place(n);
+        for _ in 0..times {
+            let rule = self.one_of(&Rule::ALL);
+            self.mistype(wells, place, rule);
+            place = match self.between(0, 1) {
+                0 => place,
+                _ => self.some_place(n),
+            };
+        }
+    }
+
     /// Two of so many, different ones if there are two.
     fn two_of(&mut self, count: usize) -> (usize, usize) {
         let k = self.between(0, count - 1);
@@ -219,14 +236,21 @@ impl Numbers {
         }
     }
 
-    fn some_place(&mut self, n: usize) -> usize {
+    pub fn some_place(&mut self, n: usize) -> usize {
         let any = self.between(0, n - 1);
         self.one_of(&[0, n - 1, any])
     }
 
+    /// The records of these wells.
+    pub fn sheet(&mut self, wells: &[Well]) -> Vec<u8> {
+        let note = self.bytes(16);
+        let records = wells.iter().map(|well| bytes_of(well, &note));
+        records.collect::<Vec<Record>>().as_flattened().to_vec()
+    }
+
     /// What lies behind the n-th record: often nothing, or a byte, or records that would make another
     /// sheet of it.
-    fn behind(&mut self, wells: &[Well]) -> Vec<u8> {
+    pub fn behind(&mut self, wells: &[Well]) -> Vec<u8> {
         let note = self.bytes(16);
         let record = |well: &Well| bytes_of(well, &note).to_vec();
         match self.between(0, 7) {
@@ -313,20 +337,9 @@ pub const TOO_SHORT: [(&str, usize); 4] = [
 pub fn plan(numbers: &mut Numbers, met: &mut Met) -> Agreed {
     let n = numbers.wells();
     let mut wells = numbers.sound_wells(n);
-    if n > 0 {
-        let mut place = numbers.some_place(n);
-        for _ in 0..numbers.one_of(&[0, 0, 1, 1, 1, 2, 2, 3]) {
-            let rule = numbers.one_of(&Rule::ALL);
-            numbers.mistype(&mut wells, place, rule);
-            place = match numbers.between(0, 1) {
-                0 => place,
-                _ => numbers.some_place(n),
-            };
-        }
-    }
-    let note = numbers.bytes(16);
-    let records = wells.iter().map(|well| bytes_of(well, &note));
-    let mut sheet = records.collect::<Vec<Record>>().as_flattened().to_vec();
+    let times = numbers.one_of(&[0, 0, 1, 1, 1, 2, 2, 3]);
+    numbers.mistype_some(&mut wells, times);
+    let mut sheet = numbers.sheet(&wells);
     sheet.extend(numbers.behind(&wells));
     let answer = calls::plan(&sheet, n)?;
     see_plan(met, &wells, &sheet[RECORD_BYTES * n..], &answer);
