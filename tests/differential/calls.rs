@@ -1,6 +1,7 @@
 //! Each call made twice on the same bytes, by the archive and by the model: the number answered and
 //! every byte lent, with those around it, must agree.
 
+use crate::brine_model::{self, Batch, BrineAnswer};
 use crate::model;
 use crate::plan_model::{self, ContentAnswer};
 use crate::sheet_model::{self, Answer, Call, Given};
@@ -69,6 +70,16 @@ extern "C" {
         out_len: usize,
     ) -> Answer;
     fn luffa_plan_check(sheet: *const u8, sheet_len: usize, n: usize) -> ContentAnswer;
+    fn luffa_plan_brine(
+        sheets: *const u8,
+        sheets_len: usize,
+        counts: *const usize,
+        counts_len: usize,
+        intake: *mut u64,
+        intake_len: usize,
+        spare: *mut i64,
+        spare_len: usize,
+    ) -> BrineAnswer;
 }
 
 /// A buffer to lend, with watched bytes on both sides.
@@ -276,4 +287,42 @@ pub fn plan(sheet: &[u8], n: usize) -> Result<ContentAnswer, String> {
     let got = unsafe { luffa_plan_check(s.pointer(), sheet.len(), n) };
     let call = format!("luffa_plan_check of {n} records: buffer 0 the sheet");
     agree(&call, &[sheet], got, want, &[(s, sheet)])
+}
+
+pub fn brine(batch: &mut Batch) -> Result<BrineAnswer, String> {
+    let lend = |batch: &Batch| {
+        let counts = batch.counts.iter().map(|count| count.to_ne_bytes());
+        let intake = batch.intake.iter().map(|figure| figure.to_ne_bytes());
+        let spare = batch.spare.iter().map(|figure| figure.to_ne_bytes());
+        [
+            Lent::new(&batch.sheets),
+            Lent::elements(counts.collect()),
+            Lent::elements(intake.collect()),
+            Lent::elements(spare.collect()),
+        ]
+    };
+    let before = lend(batch);
+    let [mut s, mut c, mut i, mut p] = lend(batch);
+    let got = unsafe {
+        luffa_plan_brine(
+            s.pointer(),
+            batch.sheets.len(),
+            c.pointer().cast(),
+            batch.counts.len(),
+            i.pointer().cast(),
+            batch.intake.len(),
+            p.pointer().cast(),
+            batch.spare.len(),
+        )
+    };
+    let want = brine_model::answer(batch);
+    let after = lend(batch);
+    let [sheets, counts, intake, spare] = after.each_ref().map(Lent::inside);
+    agree(
+        "luffa_plan_brine: buffer 0 the sheets, 1 the counts, 2 the intake, 3 the spare",
+        &before.each_ref().map(Lent::inside),
+        got,
+        want,
+        &[(s, sheets), (c, counts), (i, intake), (p, spare)],
+    )
 }

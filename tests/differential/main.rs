@@ -1,7 +1,10 @@
 //! The archive against a model of its calls over the separately written program, on random messages,
-//! cuts, records, sheets and plans: differential [SEED [CASES]]. Case k of a seed is case 0 of the
-//! seed k higher, so that one that failed is run again alone.
+//! cuts, records, sheets, plans and batches: differential [SEED [CASES]]. Case k of a seed is case 0 of
+//! the seed k higher, so that one that failed is run again alone.
 
+mod brine_kinds;
+mod brine_model;
+mod brines;
 mod calls;
 mod histories;
 mod met;
@@ -11,6 +14,8 @@ mod plan_model;
 mod plans;
 mod sheet_model;
 
+#[path = "../independent/brine.rs"]
+mod brine;
 #[path = "../independent/luffa.rs"]
 #[allow(dead_code)]
 mod luffa;
@@ -251,7 +256,7 @@ fn case(seed: u64, met: &mut Met) -> Agreed {
     for _ in 0..PLANS {
         plans::plan(numbers, met)?;
     }
-    Ok(())
+    brines::brine(numbers, met)
 }
 
 fn main() {
@@ -273,7 +278,12 @@ fn main() {
             std::process::exit(1);
         }
     }
-    let unmet = [histories::print(&met), plan_kinds::print(&met)].concat();
+    let unmet = [
+        histories::print(&met),
+        plan_kinds::print(&met),
+        brine_kinds::print(&met),
+    ];
+    let unmet = unmet.concat();
     // A few cases can't meet everything.
     if cases >= CASES && !unmet.is_empty() {
         println!("never met: {}", unmet.join("; "));

@@ -48,9 +48,9 @@ pub fn see_plan(met: &mut Met, wells: &[Well], behind: &[u8], answer: &ContentAn
     );
 }
 
-const LENGTHS: [&str; 3] = ["just enough", "a byte more", "more"];
+pub const LENGTHS: [&str; 3] = ["just enough", "one more", "more"];
 
-type See<'a> = &'a mut dyn FnMut(String);
+pub type See<'a> = &'a mut dyn FnMut(String);
 
 /// Rules that are only just kept.
 fn see_sound(see: See, all: &[Well]) {

@@ -42,7 +42,7 @@ impl Numbers {
         all
     }
 
-    fn rate(&mut self) -> u32 {
+    pub fn rate(&mut self) -> u32 {
         let any = self.between(1, 100_000) as u32;
         self.one_of(&[1, 65_536, 99_999, 100_000, any, any])
     }
@@ -274,7 +274,7 @@ pub const OVER_RATE: [u32; 5] = [100_001, 131_072, 165_536, 16_777_221, 1 << 31]
 /// Totals that aren't 1000, among them such as are the same once they are cut to a few bits.
 pub const TOTALS: [u16; 7] = [999, 1001, 744, 1256, 488, 1512, 2024];
 
-fn at_rest(number: u16, kind: u8) -> Well {
+pub fn at_rest(number: u16, kind: u8) -> Well {
     Well {
         number,
         kind,
