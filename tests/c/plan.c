@@ -2,73 +2,12 @@
    beside others; what isn't looked at; a full sheet; and the refusals. */
 #include "test.h"
 
-enum { WELLS = 9 };
-
 static uint8_t sheet[RECORD * ROOM_FOR];
-
-/* A number of so many bytes, high byte first. */
-static void put(size_t place, size_t at, size_t bytes, uint32_t value)
-{
-    for (size_t i = bytes; i-- > 0; value >>= 8)
-        sheet[RECORD * place + at + i] = (uint8_t)value;
-}
-
-/* A field of a record and its bytes. */
-#define NUMBER LUFFA_WELL_NUMBER, 2
-#define KIND LUFFA_WELL_KIND, 1
-#define LINK_COUNT LUFFA_WELL_LINK_COUNT, 1
-#define RATE LUFFA_WELL_RATE, 4
-#define INJECTOR(k) LUFFA_LINK_INJECTOR(k), 2
-#define SHARE(k) LUFFA_LINK_SHARE(k), 2
-
-static void put_well(size_t place, uint32_t kind, uint32_t number, uint32_t rate)
-{
-    memset(sheet + RECORD * place, 0, LUFFA_WELL_NOTE);
-    put(place, NUMBER, number);
-    put(place, KIND, kind);
-    put(place, RATE, rate);
-    fill(sheet + RECORD * place + LUFFA_WELL_NOTE, RECORD - LUFFA_WELL_NOTE);
-}
-
-static void add_link(size_t place, uint32_t injector, uint32_t share)
-{
-    size_t k = sheet[RECORD * place + LUFFA_WELL_LINK_COUNT]++;
-
-    put(place, INJECTOR(k), injector);
-    put(place, SHARE(k), share);
-}
-
-/* Rates, shares and numbers at the edge of what is allowed, injectors before and after. */
-static void sound_sheet(void)
-{
-    put_well(0, LUFFA_PRODUCER, 10, 65536);
-    add_link(0, 20, 600);
-    add_link(0, 21, 400);
-    put_well(1, LUFFA_INJECTOR, 20, 0);
-    put_well(2, LUFFA_PRODUCER, 11, 0);
-    put_well(3, LUFFA_PRODUCER, 12, LUFFA_RATE_MOST);
-    add_link(3, 65535, 1);
-    add_link(3, 20, 1);
-    add_link(3, 21, 1);
-    add_link(3, 22, 997);
-    put_well(4, LUFFA_INJECTOR, 21, LUFFA_RATE_MOST);
-    put_well(5, LUFFA_PRODUCER, 1, 1);
-    add_link(5, 22, LUFFA_SHARES_TOTAL);
-    put_well(6, LUFFA_INJECTOR, 22, 300);
-    put_well(7, LUFFA_INJECTOR, 65535, 7);
-    put_well(8, LUFFA_INJECTOR, 256 * 20, 0);
-}
 
 static void answers(uint64_t rule, uint64_t place)
 {
     plan_call((struct luffa_content_answer){LUFFA_DONE, rule, place}, sheet, RECORD * WELLS, WELLS);
 }
-
-/* One field of the sound sheet set to another value. */
-struct edit {
-    size_t place, at, bytes;
-    uint32_t value;
-};
 
 static const struct {
     uint64_t rule, place;
@@ -151,28 +90,28 @@ static const struct {
 
 static void small_sheet(void)
 {
-    sound_sheet();
+    sound_sheet(sheet);
     answers(LUFFA_SOUND, 0);
     for (size_t i = 0; i < COUNT_OF(examples); i++) {
-        sound_sheet();
+        sound_sheet(sheet);
         for (size_t k = 0; k < COUNT_OF(examples[i].edits); k++) {
             struct edit e = examples[i].edits[k];
-            put(e.place, e.at, e.bytes, e.value);
+            put(sheet, e.place, e.at, e.bytes, e.value);
         }
         answers(examples[i].rule, examples[i].place);
     }
 
     /* Each byte of an unused link, and of a note. */
     for (size_t place = 0; place < WELLS; place++) {
-        sound_sheet();
+        sound_sheet(sheet);
         for (size_t at = LUFFA_LINK_INJECTOR(sheet[RECORD * place + LUFFA_WELL_LINK_COUNT]); at < RECORD; at++) {
             uint8_t was = sheet[RECORD * place + at];
-            put(place, at, 1, was ^ 1u << at % 8);
+            put(sheet, place, at, 1, was ^ 1u << at % 8);
             if (at < LUFFA_WELL_NOTE)
                 answers(LUFFA_RULE_UNUSED_LINKS, place);
             else
                 answers(LUFFA_SOUND, 0);
-            put(place, at, 1, was);
+            put(sheet, place, at, 1, was);
         }
     }
 
@@ -180,17 +119,17 @@ static void small_sheet(void)
     for (size_t k = 0; k < LUFFA_LINKS_MOST; k++)
         for (size_t m = 0; m < LUFFA_LINKS_MOST; m++) {
             static const uint32_t links[] = {65535, 20, 21, 22};
-            sound_sheet();
-            put(3, INJECTOR(k), k == m ? 23 : links[m]);
+            sound_sheet(sheet);
+            put(sheet, 3, INJECTOR(k), k == m ? 23 : links[m]);
             answers(LUFFA_RULE_LINKS, 3);
         }
 
     /* Numbers that differ in one bit are two wells. */
     for (uint32_t bit = 1; bit <= 0x8000; bit *= 2) {
-        sound_sheet();
-        put(2, NUMBER, 10 ^ bit);
+        sound_sheet(sheet);
+        put(sheet, 2, NUMBER, 10 ^ bit);
         answers(LUFFA_SOUND, 0);
-        put(3, INJECTOR(0), 65535 ^ bit);
+        put(sheet, 3, INJECTOR(0), 65535 ^ bit);
         answers(LUFFA_RULE_LINKS, 3);
     }
 }
@@ -201,7 +140,7 @@ static void parts(void)
     struct luffa_content_answer sound = {LUFFA_DONE, LUFFA_SOUND, 0};
     struct luffa_content_answer at_0 = {LUFFA_DONE, LUFFA_RULE_LINKS, 0}, at_3 = {LUFFA_DONE, LUFFA_RULE_LINKS, 3};
 
-    sound_sheet();
+    sound_sheet(sheet);
     for (size_t n = 0; n <= WELLS; n++) {
         /* The producers at 0 and 3 have their last injectors at 4 and 7. */
         struct luffa_content_answer want = n == 0 || n > 7 ? sound : n > 4 ? at_3 : at_0;
@@ -222,22 +161,22 @@ static void full_sheet(size_t n)
     size_t linked[] = {0, 512, n - 1};
 
     for (size_t place = 0; place < n; place++)
-        put_well(place, LUFFA_INJECTOR, 64 * (uint32_t)place + 1, (uint32_t)place);
-    put_well(PRODUCER_AT, LUFFA_PRODUCER, 2, 1);
+        put_well(sheet, place, LUFFA_INJECTOR, 64 * (uint32_t)place + 1, (uint32_t)place);
+    put_well(sheet, PRODUCER_AT, LUFFA_PRODUCER, 2, 1);
     for (size_t k = 0; k < COUNT_OF(linked); k++)
-        add_link(PRODUCER_AT, 64 * (uint32_t)linked[k] + 1, k == 0 ? 998 : 1);
+        add_link(sheet, PRODUCER_AT, 64 * (uint32_t)linked[k] + 1, k == 0 ? 998 : 1);
     plan_call(want, sheet, RECORD * n, n);
     want.rule = LUFFA_RULE_RATE;
     for (size_t k = 0; k < COUNT_OF(linked); k++) {
         want.place = linked[k];
-        put(want.place, RATE, LUFFA_RATE_MOST + 1);
+        put(sheet, want.place, RATE, LUFFA_RATE_MOST + 1);
         plan_call(want, sheet, RECORD * n, n);
-        put(want.place, RATE, 0);
+        put(sheet, want.place, RATE, 0);
     }
     /* The last gets the number of the second, and is linked by it. */
     want.rule = LUFFA_RULE_REPEAT;
-    put(n - 1, NUMBER, 64 + 1);
-    put(PRODUCER_AT, INJECTOR(2), 64 + 1);
+    put(sheet, n - 1, NUMBER, 64 + 1);
+    put(sheet, PRODUCER_AT, INJECTOR(2), 64 + 1);
     plan_call(want, sheet, RECORD * n, n);
 }
 
@@ -247,8 +186,8 @@ static void refusals(void)
     struct luffa_content_answer sound = {LUFFA_DONE, LUFFA_SOUND, 0}, refused = {LUFFA_SHEET, 0, 0};
 
     for (int faulty = 0; faulty <= 1; faulty++) {
-        sound_sheet();
-        put(1, RATE, faulty ? LUFFA_RATE_MOST + 1 : 0);
+        sound_sheet(sheet);
+        put(sheet, 1, RATE, faulty ? LUFFA_RATE_MOST + 1 : 0);
         for (size_t i = 0; i < COUNT_OF(too_many); i++) {
             plan_call(refused, sheet, RECORD * WELLS, too_many[i]);
             plan_call(refused, sheet, 0, too_many[i]);

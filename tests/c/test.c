@@ -420,6 +420,51 @@ struct luffa_sheet_answer sheet_call(uint64_t want, enum call call, struct sheet
     return got;
 }
 
+/* ---- What the records of a sheet mean. */
+
+void put(uint8_t *sheet, size_t place, size_t at, size_t bytes, uint32_t value)
+{
+    for (size_t i = bytes; i-- > 0; value >>= 8)
+        sheet[RECORD * place + at + i] = (uint8_t)value;
+}
+
+void put_well(uint8_t *sheet, size_t place, uint32_t kind, uint32_t number, uint32_t rate)
+{
+    memset(sheet + RECORD * place, 0, LUFFA_WELL_NOTE);
+    put(sheet, place, NUMBER, number);
+    put(sheet, place, KIND, kind);
+    put(sheet, place, RATE, rate);
+    fill(sheet + RECORD * place + LUFFA_WELL_NOTE, RECORD - LUFFA_WELL_NOTE);
+}
+
+void add_link(uint8_t *sheet, size_t place, uint32_t injector, uint32_t share)
+{
+    size_t k = sheet[RECORD * place + LUFFA_WELL_LINK_COUNT]++;
+
+    put(sheet, place, INJECTOR(k), injector);
+    put(sheet, place, SHARE(k), share);
+}
+
+void sound_sheet(uint8_t *sheet)
+{
+    put_well(sheet, 0, LUFFA_PRODUCER, 10, 65536);
+    add_link(sheet, 0, 20, 600);
+    add_link(sheet, 0, 21, 400);
+    put_well(sheet, 1, LUFFA_INJECTOR, 20, 0);
+    put_well(sheet, 2, LUFFA_PRODUCER, 11, 0);
+    put_well(sheet, 3, LUFFA_PRODUCER, 12, LUFFA_RATE_MOST);
+    add_link(sheet, 3, 65535, 1);
+    add_link(sheet, 3, 20, 1);
+    add_link(sheet, 3, 21, 1);
+    add_link(sheet, 3, 22, 997);
+    put_well(sheet, 4, LUFFA_INJECTOR, 21, LUFFA_RATE_MOST);
+    put_well(sheet, 5, LUFFA_PRODUCER, 1, 1);
+    add_link(sheet, 5, 22, LUFFA_SHARES_TOTAL);
+    put_well(sheet, 6, LUFFA_INJECTOR, 22, 300);
+    put_well(sheet, 7, LUFFA_INJECTOR, 65535, 7);
+    put_well(sheet, 8, LUFFA_INJECTOR, 256 * 20, 0);
+}
+
 void plan_call(struct luffa_content_answer want, const uint8_t *sheet, size_t sheet_len, size_t n)
 {
     static struct lent l;

@@ -87,6 +87,34 @@ extern const size_t final_rounds[5];
    digest. */
 struct luffa_sheet_answer sheet_call(uint64_t want, enum call call, struct sheet *s);
 
+/* ---- What the records of a sheet mean. */
+
+/* A field of a record and its bytes. */
+#define NUMBER LUFFA_WELL_NUMBER, 2
+#define KIND LUFFA_WELL_KIND, 1
+#define LINK_COUNT LUFFA_WELL_LINK_COUNT, 1
+#define RATE LUFFA_WELL_RATE, 4
+#define INJECTOR(k) LUFFA_LINK_INJECTOR(k), 2
+#define SHARE(k) LUFFA_LINK_SHARE(k), 2
+
+/* A field of a sheet's record set to another value. */
+struct edit {
+    size_t place, at, bytes;
+    uint32_t value;
+};
+
+/* A number of so many bytes, high byte first. */
+void put(uint8_t *sheet, size_t place, size_t at, size_t bytes, uint32_t value);
+
+/* A well without links, its note any bytes; and a link more. */
+void put_well(uint8_t *sheet, size_t place, uint32_t kind, uint32_t number, uint32_t rate);
+void add_link(uint8_t *sheet, size_t place, uint32_t injector, uint32_t share);
+
+/* A sound sheet, with rates, shares and numbers at the edge of what is allowed, injectors before and
+   after. */
+enum { WELLS = 9 };
+void sound_sheet(uint8_t *sheet);
+
 /* The check of what the first n records mean, which writes nothing. */
 void plan_call(struct luffa_content_answer want, const uint8_t *sheet, size_t sheet_len, size_t n);
 
