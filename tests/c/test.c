@@ -39,21 +39,44 @@ void fill(uint8_t *bytes, size_t n)
 enum { PAGE = 4096, ROOM = 16 * PAGE, EDGE = 64 };
 
 struct lent {
-    uint8_t *room; /* ROOM bytes between two pages that can't be touched */
+    uint8_t *room; /* between two pages that can't be touched */
+    size_t size;   /* its bytes: ROOM, or more where more was lent */
     uint8_t *bytes;
     size_t n;
-    uint8_t was[ROOM]; /* what is watched, as it was lent */
+    uint8_t *was; /* what is watched, as it was lent */
 };
 
 /* What is watched: the lent bytes, and those of the room up to EDGE before and after them. */
 static size_t watched(const struct lent *l, uint8_t **from)
 {
-    size_t before = (size_t)(l->bytes - l->room), after = ROOM - before - l->n;
+    size_t before = (size_t)(l->bytes - l->room), after = l->size - before - l->n;
 
     before = before < EDGE ? before : EDGE;
     after = after < EDGE ? after : EDGE;
     *from = l->bytes - before;
     return before + l->n + after;
+}
+
+/* Finds room for n bytes and those watched around them. It is all mapped: where there is a block of the
+   heap, valgrind looks for lost ones in everything that a test has mapped. */
+static void make_room(struct lent *l, size_t n)
+{
+    size_t size = ROOM;
+
+    while (size < EDGE + n + EDGE)
+        size *= 2;
+    if (l->size >= size)
+        return;
+    if (l->size > 0)
+        munmap(l->room - PAGE, 2 * (PAGE + l->size));
+    uint8_t *pages = mmap(NULL, 2 * (PAGE + size), PROT_NONE, MAP_PRIVATE | MAP_ANONYMOUS, -1, 0);
+    check(pages != MAP_FAILED, "no memory");
+    l->room = pages + PAGE;
+    l->size = size;
+    l->was = l->room + size + PAGE;
+    check(mprotect(l->room, size, PROT_READ | PROT_WRITE) == 0, "no memory");
+    check(mprotect(l->was, size, PROT_READ | PROT_WRITE) == 0, "no memory");
+    fill(l->room, size);
 }
 
 /* Lends a copy of n bytes, or any n bytes where there are none to copy. As it falls, they stand
@@ -64,19 +87,13 @@ static uint8_t *lend_aligned(struct lent *l, const uint8_t *bytes, size_t n, siz
 {
     uint8_t place = any_byte(), *from;
 
-    check(n <= ROOM - 2 * EDGE, "a test lends %zu bytes", n);
-    if (l->room == NULL) {
-        uint8_t *pages = mmap(NULL, PAGE + ROOM + PAGE, PROT_NONE, MAP_PRIVATE | MAP_ANONYMOUS, -1, 0);
-        check(pages != MAP_FAILED && mprotect(pages + PAGE, ROOM, PROT_READ | PROT_WRITE) == 0, "no memory");
-        l->room = pages + PAGE;
-        fill(l->room, ROOM);
-    }
+    make_room(l, n);
     switch (place % 3) {
     case 0:
         l->bytes = l->room;
         break;
     case 1:
-        l->bytes = l->room + ROOM - n;
+        l->bytes = l->room + l->size - n;
         break;
     default:
         l->bytes = l->room + EDGE + place % EDGE / align * align;
