@@ -14,7 +14,7 @@ HOLDS(LUFFA_RECORD_BYTES == 208);
 HOLDS(LUFFA_LIMIT == ((uint64_t)1 << 61) - 1);
 HOLDS(LUFFA_DONE == 0 && LUFFA_WIDTH == 1 && LUFFA_OUT == 2 && LUFFA_RECORD == 3 && LUFFA_LONG == 4);
 HOLDS(LUFFA_SHEET == 5 && LUFFA_MARKS == 6 && LUFFA_PLACE == 7 && LUFFA_FULL == 8 && LUFFA_SIZE == 9);
-HOLDS(LUFFA_CLAIM == 10 && LUFFA_STALE == 11);
+HOLDS(LUFFA_CLAIM == 10 && LUFFA_STALE == 11 && LUFFA_BATCH == 13 && LUFFA_LIST == 25 && LUFFA_BATCH_MOST == 64);
 HOLDS(LUFFA_SHEET_MOST == 1024 && LUFFA_SHEET_RECORD_BYTES == 40 && LUFFA_MARK_WORDS == 40);
 HOLDS(LUFFA_MARKS_FOR(0) == 40 && LUFFA_MARKS_FOR(3) == 40 && LUFFA_MARKS_FOR(4) == 80);
 HOLDS(LUFFA_MARKS_FOR(LUFFA_SHEET_MOST) == 10280 && LUFFA_MARKS_FOR(1 + 2) == 40);
@@ -30,6 +30,9 @@ HOLDS(LUFFA_RULE_RATE == 4 && LUFFA_RULE_LINKS == 5 && LUFFA_RULE_SHARES == 6 &&
 HOLDS(LUFFA_RULE_REPEAT == 8);
 HOLDS(sizeof(struct luffa_content_answer) == 24 && offsetof(struct luffa_content_answer, number) == 0 &&
       offsetof(struct luffa_content_answer, rule) == 8 && offsetof(struct luffa_content_answer, place) == 16);
+HOLDS(sizeof(struct luffa_brine_answer) == 40 && offsetof(struct luffa_brine_answer, number) == 0 &&
+      offsetof(struct luffa_brine_answer, sound) == 8 && offsetof(struct luffa_brine_answer, faulted) == 16 &&
+      offsetof(struct luffa_brine_answer, intake) == 24 && offsetof(struct luffa_brine_answer, overloaded) == 32);
 HOLDS(sizeof(struct luffa_hash) == 208 && offsetof(struct luffa_hash, code) == 0 &&
       offsetof(struct luffa_hash, state) == 8 && offsetof(struct luffa_hash, pending) == 168 &&
       offsetof(struct luffa_hash, count) == 200);
@@ -52,6 +55,8 @@ static answer (*const append)(size_t, uint8_t *, size_t, size_t, uint32_t *, siz
 static answer (*const drop)(size_t, uint8_t *, size_t, size_t, uint32_t *, size_t, const uint8_t *, size_t, uint8_t *,
                             size_t) = luffa_sheet_drop;
 static struct luffa_content_answer (*const plan_check)(const uint8_t *, size_t, size_t) = luffa_plan_check;
+static struct luffa_brine_answer (*const plan_brine)(const uint8_t *, size_t, const size_t *, size_t, uint64_t *,
+                                                     size_t, int64_t *, size_t) = luffa_plan_brine;
 
 int main(void)
 {
@@ -59,6 +64,9 @@ int main(void)
     uint8_t sheet[LUFFA_SHEET_RECORD_BYTES] = {0}, line[LUFFA_SHEET_RECORD_BYTES] = {1};
     uint32_t marks[LUFFA_MARKS_FOR(1)];
     struct luffa_hash hash;
+    size_t counts[] = {0, 1};
+    uint64_t intake[1];
+    int64_t spare[1];
 
     return digest(LUFFA_224, NULL, 0, out, sizeof out) != LUFFA_DONE ||
            start(LUFFA_512, record, sizeof record) != LUFFA_DONE ||
@@ -73,5 +81,6 @@ int main(void)
                   claim, sizeof claim).number != LUFFA_PLACE ||
            drop(LUFFA_512, sheet, sizeof sheet, 1, marks, LUFFA_MARKS_FOR(1), out, sizeof out, claim, sizeof claim)
                    .count != 0 ||
-           plan_check(sheet, sizeof sheet, 1).rule != LUFFA_RULE_NUMBER;
+           plan_check(sheet, sizeof sheet, 1).rule != LUFFA_RULE_NUMBER ||
+           plan_brine(sheet, sizeof sheet, counts, 2, intake, 1, spare, 1).faulted != 1;
 }

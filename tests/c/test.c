@@ -494,3 +494,33 @@ void plan_call(struct luffa_content_answer want, const uint8_t *sheet, size_t sh
           (unsigned long long)want.number, (unsigned long long)want.rule, (unsigned long long)want.place);
     check(kept(&l, 0), "check of %zu records in %zu bytes: wrote to the sheet", n, sheet_len);
 }
+
+void brine_call(struct luffa_brine_answer want, const struct batch *b)
+{
+    static struct lent in_sheets, in_counts, in_intake, in_spare;
+    uint8_t *sheets = lend(&in_sheets, b->sheets, b->sheets_len);
+    size_t *counts = (void *)lend_aligned(&in_counts, (const uint8_t *)b->counts, 8 * b->counts_len, 8);
+    uint64_t *intake = (void *)lend_aligned(&in_intake, NULL, 8 * b->intake_len, 8);
+    int64_t *spare = (void *)lend_aligned(&in_spare, NULL, 8 * b->spare_len, 8);
+    size_t records = 0;
+
+    for (size_t k = 0; want.number == LUFFA_DONE && k < b->counts_len; k++)
+        records += b->counts[k];
+    struct luffa_brine_answer got =
+        luffa_plan_brine(sheets, b->sheets_len, counts, b->counts_len, intake, b->intake_len, spare, b->spare_len);
+    check(memcmp(&got, &want, sizeof got) == 0,
+          "brine of %zu sheets in %zu bytes, lists of %zu and %zu: answered %llu, %llu sound, %llu faulted, %llu in, "
+          "%llu overloaded, wanted %llu, %llu, %llu, %llu, %llu",
+          b->counts_len, b->sheets_len, b->intake_len, b->spare_len, (unsigned long long)got.number,
+          (unsigned long long)got.sound, (unsigned long long)got.faulted, (unsigned long long)got.intake,
+          (unsigned long long)got.overloaded, (unsigned long long)want.number, (unsigned long long)want.sound,
+          (unsigned long long)want.faulted, (unsigned long long)want.intake, (unsigned long long)want.overloaded);
+    for (size_t p = 0; p < records; p++)
+        check(intake[p] == b->intake[p] && spare[p] == b->spare[p],
+              "brine of %zu sheets, record %zu: intake %llu, spare %lld, wanted %llu, %lld", b->counts_len, p,
+              (unsigned long long)intake[p], (long long)spare[p], (unsigned long long)b->intake[p],
+              (long long)b->spare[p]);
+    check(kept(&in_sheets, 0) && kept(&in_counts, 0) && kept(&in_intake, 8 * records) && kept(&in_spare, 8 * records),
+          "brine of %zu sheets in %zu bytes, lists of %zu and %zu, answer %u: wrote outside its places", b->counts_len,
+          b->sheets_len, b->intake_len, b->spare_len, (unsigned)got.number);
+}

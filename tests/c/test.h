@@ -118,4 +118,20 @@ void sound_sheet(uint8_t *sheet);
 /* The check of what the first n records mean, which writes nothing. */
 void plan_call(struct luffa_content_answer want, const uint8_t *sheet, size_t sheet_len, size_t n);
 
+enum { SHEETS = LUFFA_BATCH_MOST, RECORDS = SHEETS * MOST + 1 };
+
+/* All that a brine statement is given but the lists, of which there are the lengths, and the figures
+   that it must have for each record. */
+struct batch {
+    size_t sheets_len, counts_len, intake_len, spare_len;
+    uint8_t sheets[RECORD * RECORDS];
+    size_t counts[300];
+    uint64_t intake[RECORDS];
+    int64_t spare[RECORDS];
+};
+
+/* Has the page drawn up in lists of any numbers. What is written must be the figures, a place of each
+   list for each record; refused, nothing may be. */
+void brine_call(struct luffa_brine_answer want, const struct batch *b);
+
 #endif

@@ -68,12 +68,37 @@ static uint8_t *map(size_t bytes)
     return mapped;
 }
 
+/* A sheet's page in wide buffers, and then as many sheets, or records of the second. The lists are
+   unmapped again: valgrind has no addresses for them beside the marks. */
+static void brine(uint8_t *sheets)
+{
+    size_t counts[] = {WELLS, WIDE}, bytes = 8 * WIDE + 65536;
+    uint64_t *intake = (void *)map(bytes), few[WELLS] = {0};
+    int64_t *spare = (void *)map(bytes);
+
+    sound_sheet(sheets);
+    struct luffa_brine_answer got = luffa_plan_brine(sheets, WIDE, counts, 1, intake, WIDE, spare, WIDE);
+    check(got.number == LUFFA_DONE && got.sound == 1 && got.overloaded == 3 && intake[7] == 100000 &&
+              spare[7] == -93000 && intake[WELLS] == 0 && spare[WELLS] == 0 && intake[WIDE] == 0 && spare[WIDE] == 0,
+          "a page in wide buffers");
+    check(luffa_plan_brine(sheets, WIDE, counts, 2, intake, WIDE, spare, WIDE).number == LUFFA_SHEET,
+          "a page over a wide number of records");
+    memset(intake, 0, 8 * WELLS);
+    check(luffa_plan_brine(sheets, WIDE, intake, WIDE, few, WELLS, spare, WIDE).number == LUFFA_BATCH &&
+              luffa_plan_brine(sheets, WIDE, intake, WIDE + 1, few, WELLS, spare, WIDE).number == LUFFA_BATCH,
+          "a page over a wide number of sheets");
+    memset(sheets, 0, RECORD * WELLS);
+    munmap(intake, bytes);
+    munmap(spare, bytes);
+}
+
 int main(void)
 {
     uint8_t record[LUFFA_RECORD_BYTES], digest[LUFFA_512_BYTES];
     uint8_t *mapped = map(WIDE + 65536), *out = map(WIDE + 65536);
-    uint32_t *marks = (void *)map(4 * WIDE + 65536);
 
+    brine(mapped);
+    uint32_t *marks = (void *)map(4 * WIDE + 65536);
     for (size_t code = 1; code <= 4; code++) {
         /* A record buffer of 2^32 + 208 bytes isn't one of 208. */
         any_record(record, code, 40);
