@@ -81,7 +81,7 @@ fn below_zero(s: i64) -> u64
     (s < 0) as u64
 }
 
-// What is spare of an injector's capacity at an intake, in kilograms a day; 0 for another well.
+// What is spare of an injector's capacity at an intake, in kilograms a day; 0 for another well. The bound is what 1,024 producers send at most.
 fn spare_of(w: Well, intake: u64) -> i64
     requires { ⌜ intake ≤ 102400000000 ⌝ }
     ensures { λ r. ⌜ r ≡ rowWhen (injector w) (record { intake = intake; spare = spareOf (w .rate) intake }) .spare ⌝ }
