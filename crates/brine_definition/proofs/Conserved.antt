@@ -2,7 +2,7 @@
 -- of the sheet, so over all injectors a producer's links bring what they carry.
 -- Assumes nothing.
 use mathlib.Core.Path.{_≡_, refl, sym, _∙_}
-use mathlib.Core.Bool.{Bool, true, false, _&&_}
+use mathlib.Core.Bool.{Bool, true, false}
 use mathlib.Core.List.{List, [], _∷_, map}
 use Prim.Native.Nat.{ℕ, _+_, _*_, _≤_}
 use native.Mathlib.Omega.{arith}
@@ -20,7 +20,7 @@ use Rattle.plan_definition.specs.Rules.{producer, injector, used, total}
 use Rattle.plan_definition.specs.Sound.{NamesInjector, Keeps, KeepsLinks, KeepsRepeat, Sound}
 use Rattle.plan_definition.proofs.Faults.{Rising, rising}
 use Rattle.brine_definition.specs.Count.{sum}
-use Rattle.brine_definition.specs.Page.{Row, brought, intakeFrom, rowOf, rowWhen, sound, rows, produced}
+use Rattle.brine_definition.specs.Page.{Row, brought, intakeFrom, rowOf, rowWhen, sound, rowIn, rows, produced}
 use Rattle.brine_definition.specs.Statement.{batch, page, intakes}
 use Rattle.brine_definition.proofs.Sums.{pick-zero, sum-zeros, pick-most, page-intakes}
 use Rattle.brine_definition.proofs.Sound.{sound-exactly, faulted-intakes, length-wells}
@@ -102,11 +102,11 @@ when-intake false r = refl
 
 intakes-received : (ws : List Well) → sound ws ≡ true → sum (intakes (rows ws)) ≡ received ws (intakeFrom ws)
 unfolding rows intakes sum rowOf
-intakes-received ws e = rw e (go ws)
+intakes-received ws e = go ws
   where
-    go : (vs : List Well) → sum (map (λ r. r .intake) (map (λ w. rowWhen (true && injector w) (rowOf ws w)) vs)) ≡ received vs (intakeFrom ws)
+    go : (vs : List Well) → sum (map (λ r. r .intake) (map (rowIn ws) vs)) ≡ received vs (intakeFrom ws)
     go [] = refl
-    go (v ∷ vs) = rw (when-intake (injector v) (rowOf ws v), go vs)
+    go (v ∷ vs) = rw (e, when-intake (injector v) (rowOf ws v), go vs)
 
 -- the theorem, for any records
 pub conserved : (xs : List (List ℕ)) → Sound (wellsFrom 0 xs) → sum (intakes (rows (wellsFrom 0 xs))) ≡ 1000 * produced (wellsFrom 0 xs)

@@ -18,7 +18,7 @@ use Rattle.plan_definition.specs.Well.{wells}
 use Rattle.plan_definition.specs.Rules.{injector}
 use Rattle.plan_definition.specs.Sound.{Sound, KeepsRate}
 use Rattle.brine_definition.specs.Count.{sum}
-use Rattle.brine_definition.specs.Page.{Row, rowOf, rowWhen, sound, rows, intakeFrom}
+use Rattle.brine_definition.specs.Page.{Row, rowOf, rowWhen, sound, rows, intakeFrom, rowIn}
 use Rattle.brine_definition.specs.Statement.{batch, page, spares, belowZero, statementOf}
 use Rattle.brine_definition.specs.Said.{noRow, AnswerFits}
 use Rattle.brine_definition.proofs.Sums.{count-most, length-spares}
@@ -57,7 +57,7 @@ module _ (ws : List Well) (m : ℕ) (h : 100000000 * length ws ≤ m) where
   rows-within = go ws (λ w a. a)
     where
       go : (vs : List Well) → ((w : Well) → Among w vs → Among w ws)
-          → Every (Within m) (map (λ w. rowWhen (sound ws && injector w) (rowOf ws w)) vs)
+          → Every (Within m) (map (rowIn ws) vs)
       go [] i = tt
       go (v ∷ vs) i = (well-within v (i v here) (sound ws) (injector v) refl, go vs (λ w a. i w (later a)))
 

@@ -1,7 +1,6 @@
 -- Where a row stands: record i of sheet k has place (records of the sheets before) + i, in the page and in both lists.
 -- Assumes nothing.
 use mathlib.Core.Path.{_≡_, refl, _∙_}
-use mathlib.Core.Bool.{_&&_}
 use mathlib.Core.List.{List, [], _∷_, _++_, map}
 use Prim.Native.Nat.{ℕ, zero, suc, _+_, _*_, _<_}
 use native.Mathlib.Omega.{arith}
@@ -11,10 +10,9 @@ use lib.Seq.{drop-drop, getD-append-add}
 use Rattle.sheet_definition.specs.Run.{cut}
 use Rattle.plan_definition.specs.declared.Well.{Well}
 use Rattle.plan_definition.specs.Well.{wellOf, wellsFrom, wells}
-use Rattle.plan_definition.specs.Rules.{injector}
 use Rattle.plan_definition.proofs.Places.{wellAt}
 use Rattle.brine_definition.specs.Count.{sum}
-use Rattle.brine_definition.specs.Page.{Row, rowOf, rowWhen, sound, rows}
+use Rattle.brine_definition.specs.Page.{Row, rows, rowIn}
 use Rattle.brine_definition.specs.Statement.{batch, page, intakes, spares, brineOutcome}
 use Rattle.brine_definition.specs.Said.{before, sheetAt, rowAt, noRow}
 use Rattle.brine_definition.proofs.Sound.{length-rows, length-wells, length-page}
@@ -45,7 +43,7 @@ sheet-row : (n i : ℕ) (sheet : List ℕ) → i < n → getD (rows (wells n she
 unfolding rows
 sheet-row n i sheet h =
     let ws = wells n sheet in
-    map-at (λ w. rowWhen (sound ws && injector w) (rowOf ws w)) ws i (wellAt i sheet) noRow (omega (arith, length-wells n sheet))
+    map-at (rowIn ws) ws i (wellAt i sheet) noRow (omega (arith, length-wells n sheet))
     ∙ rw (well-at n i sheet (wellAt i sheet) h)
 
 -- the row of record i of sheet k

@@ -2,7 +2,7 @@
 -- Assumes nothing.
 use mathlib.Core.Path.{_≡_, refl, ap, _∙_}
 use mathlib.Core.Logic.{_↔_, Iff·trans}
-use mathlib.Core.Bool.{true, false, _&&_, false≢true}
+use mathlib.Core.Bool.{true, false, false≢true}
 use mathlib.Core.List.{List, [], _∷_, map}
 use Prim.Native.Nat.{ℕ, suc}
 use lib.IntN.{pos}
@@ -13,12 +13,11 @@ use Rattle.plan_definition.specs.declared.Well.{Well}
 use Rattle.plan_definition.specs.declared.Verdict.{Verdict}
 use Rattle.plan_definition.specs.declared.Verdict.the-variants.{Refused, Sound, Fault}
 use Rattle.plan_definition.specs.Well.{wellsFrom, wells}
-use Rattle.plan_definition.specs.Rules.{injector}
 use Rattle.plan_definition.specs.Sound.{Sound as SoundSheet}
 use Rattle.plan_definition.specs.Check.{firstFault}
 use Rattle.plan_definition.proofs.Faults.{none-faulty}
 use Rattle.brine_definition.specs.Count.{sum}
-use Rattle.brine_definition.specs.Page.{rowOf, rowWhen, saysSound, sound, rows}
+use Rattle.brine_definition.specs.Page.{rowWhen, saysSound, sound, rowIn, rows}
 use Rattle.brine_definition.specs.Statement.{batch, page, intakes, spares}
 use Rattle.brine_definition.specs.Said.{noRow}
 use Rattle.brine_definition.proofs.Sums.{map-replicate}
@@ -38,11 +37,11 @@ module _ (ws : List Well) (faulted : sound ws ≡ false) where
   -- any other has only rows of zeros
   pub faulted-rows : rows ws ≡ replicate (length ws) noRow
   unfolding rows rowWhen
-  faulted-rows = rw faulted (go ws)
+  faulted-rows = go ws
     where
-      go : (vs : List Well) → map (λ w. rowWhen (false && injector w) (rowOf ws w)) vs ≡ replicate (length vs) noRow
+      go : (vs : List Well) → map (rowIn ws) vs ≡ replicate (length vs) noRow
       go [] = refl
-      go (v ∷ vs) = rw (go vs)
+      go (v ∷ vs) = rw (faulted, go vs)
 
   pub faulted-intakes : intakes (rows ws) ≡ replicate (length ws) 0
   unfolding intakes

@@ -14,7 +14,7 @@ use Rattle.brine_definition.specs.Page.{spareOf}
 use Rattle.brine_definition.specs.Statement.{belowZero}
 
 -- a number less another: what holds of either sign's outcome
-by-minus : (a b : ℕ) (P : ℤ → Type 0) → (b ≤ a → P (pos (a - b))) → (a < b → P (negsuc (b - suc a))) → P (pos a -ℤ pos b)
+pub by-minus : (a b : ℕ) (P : ℤ → Type 0) → (b ≤ a → P (pos (a - b))) → (a < b → P (negsuc (b - suc a))) → P (pos a -ℤ pos b)
 by-minus a zero P f g = let e : a + 0 ≡ a - 0 = omega arith in rw e (f (omega arith))
 by-minus a (suc b) P f g = go (ltb a (suc b)) refl
   where

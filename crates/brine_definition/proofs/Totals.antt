@@ -14,7 +14,7 @@ use Rattle.plan_definition.specs.declared.Well.{Well}
 use Rattle.plan_definition.specs.Well.{wells}
 use Rattle.plan_definition.specs.Rules.{injector}
 use Rattle.brine_definition.specs.Count.{sum, count}
-use Rattle.brine_definition.specs.Page.{intakeFrom, rowOf, rowWhen, sound, rows, produced}
+use Rattle.brine_definition.specs.Page.{intakeFrom, rowOf, rowWhen, sound, rows, produced, rowIn}
 use Rattle.brine_definition.specs.Statement.{batch, page, intakes, spares, belowZero, statementOf, brineOutcome}
 use Rattle.brine_definition.specs.Said.{overloadedIn}
 use Rattle.brine_definition.proofs.Sums.{count-not, page-intakes, page-spares}
@@ -44,7 +44,7 @@ row-below ws w true false = refl
 row-below ws w false i = refl
 
 rows-below : (ws vs : List Well)
-    → count belowZero (spares (map (λ w. rowWhen (sound ws && injector w) (rowOf ws w)) vs)) ≡ count (overloadedIn ws) vs
+    → count belowZero (spares (map (rowIn ws) vs)) ≡ count (overloadedIn ws) vs
 unfolding spares count
 rows-below ws [] = refl
 rows-below ws (v ∷ vs) = rw (row-below ws v (sound ws) (injector v), rows-below ws vs)

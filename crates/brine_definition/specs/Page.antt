@@ -36,7 +36,7 @@ rowOf ws w =
     let intake : ℕ = intakeFrom ws (w .number) in
     record { intake = intake; spare = spareOf (w .rate) intake }
 
--- "0 in both for producers and for every record of a faulted sheet"
+-- "0 in both"
 unfoldable pub rowWhen : Bool → Row → Row
 rowWhen true r = r
 rowWhen false r = record { intake = 0; spare = pos 0 }
@@ -50,8 +50,12 @@ saysSound (Fault rule place) = false
 unfoldable pub sound : List Well → Bool
 sound ws = saysSound (firstFault ws ws)
 
+-- ".. for producers and for every record of a faulted sheet"
+abbrev pub rowIn : List Well → Well → Row
+rowIn ws w = rowWhen (sound ws && injector w) (rowOf ws w)
+
 unfoldable pub rows : List Well → List Row
-rows ws = map (λ w. rowWhen (sound ws && injector w) (rowOf ws w)) ws
+rows ws = map (rowIn ws) ws
 
 -- "the producers' rates", in tonnes a day: "For every sound sheet the intakes are proved to total 1000 times" these
 unfoldable pub produced : List Well → ℕ

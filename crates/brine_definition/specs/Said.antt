@@ -14,7 +14,7 @@ use Rattle.plan_definition.specs.Well.{wellOf, wells}
 use Rattle.plan_definition.specs.Rules.{injector}
 use Rattle.brine_definition.specs.declared.Statement.{Statement}
 use Rattle.brine_definition.specs.Count.{sum}
-use Rattle.brine_definition.specs.Page.{Row, intakeFrom, rowOf, rowWhen, sound}
+use Rattle.brine_definition.specs.Page.{Row, intakeFrom, rowIn, sound}
 
 -- "more than 64 sheets", or no more
 abbrev pub TooMany : (counts : List ℕ) → Type 0
@@ -46,10 +46,7 @@ sheetAt counts sheets k = drop (recordBytes * before counts k) sheets
 
 -- the row of record i of a sheet of n
 abbrev pub rowAt : (n i : ℕ) → (sheet : List ℕ) → Row
-rowAt n i sheet =
-    let ws : List Well = wells n sheet in
-    let w : Well = wellOf i (take recordBytes (drop (recordBytes * i) sheet)) in
-    rowWhen (sound ws && injector w) (rowOf ws w)
+rowAt n i sheet = rowIn (wells n sheet) (wellOf i (take recordBytes (drop (recordBytes * i) sheet)))
 
 -- a row of zeros
 abbrev pub noRow : Row

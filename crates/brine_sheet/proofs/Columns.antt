@@ -1,7 +1,6 @@
 -- A list that has a well's figure at its place is the column of these figures; and the intakes that were sent are the page's.
 -- Assumes nothing.
 use mathlib.Core.Path.{_≡_, sym, _∙_}
-use mathlib.Core.Bool.{_&&_}
 use mathlib.Core.List.{List, map, map-map}
 use Prim.Native.Nat.{ℕ, zero, suc, _+_, _*_, _<_}
 use native.Mathlib.Omega.{arith}
@@ -12,7 +11,7 @@ use Rattle.plan_definition.specs.Well.{wells}
 use Rattle.plan_definition.specs.Rules.{injector}
 use Rattle.plan_definition.proofs.Places.{wellAt, left, left-all, left-step, left-none}
 use Rattle.plan_places.specs.Places.{placed}
-use Rattle.brine_definition.specs.Page.{rowOf, rowWhen, sound, rows}
+use Rattle.brine_definition.specs.Page.{rowOf, sound, rows, rowIn}
 use Rattle.brine_definition.specs.Statement.{intakes}
 use Rattle.brine_definition.proofs.Sums.{pick-most}
 use Rattle.brine_definition.proofs.Sound.{sound-exactly, length-wells}
@@ -49,7 +48,7 @@ module _ {n : ℕ} {sheet t : List ℕ} (g : Given n sheet t) where
       → x ≡ intakes (rows (wells n sheet))
   unfolding intakes rows Added rowOf
   sent-intakes x e h =
-      column n sheet (λ w. rowWhen (sound (wells n sheet) && injector w) (rowOf (wells n sheet) w) .intake) 0 x e (λ q l.
+      column n sheet (λ w. rowIn (wells n sheet) w .intake) 0 x e (λ q l.
       h q ∙ rw (getD-replicate {A = ℕ} n q 0 0 l, sound-exactly (wells n sheet) .1 (g .sound), sent-there g q l)
       (omega (arith, when-intake (injector (wellAt q sheet)) (rowOf (wells n sheet) (wellAt q sheet)))))
-      ∙ sym (map-map (λ r. r .intake) (λ w. rowWhen (sound (wells n sheet) && injector w) (rowOf (wells n sheet) w)) (wells n sheet))
+      ∙ sym (map-map (λ r. r .intake) (rowIn (wells n sheet)) (wells n sheet))

@@ -1,27 +1,21 @@
 -- The rows of a sheet as a loop over its places finds them, and the spares and the statement of a sound one.
 -- Assumes nothing.
 use mathlib.Core.Path.{_≡_, refl, ap}
-use mathlib.Core.Bool.{Bool, true, false, _&&_}
+use mathlib.Core.Bool.{Bool, true, false}
 use mathlib.Core.List.{List, [], _∷_, map, append-nil}
 use Prim.Native.Nat.{ℕ, suc, _<_}
 use Rattle.definition.specs.Refusal.{pick}
 use Rattle.plan_definition.specs.declared.Well.{Well}
 use Rattle.plan_definition.specs.Well.{wells}
 use Rattle.plan_definition.specs.Rules.{injector}
-use Rattle.plan_definition.proofs.Places.{wellAt, left, left-all, left-step, left-none}
+use Rattle.plan_definition.proofs.Places.{left, left-all, left-step, left-none}
 use Rattle.brine_definition.specs.declared.Statement.{Statement}
 use Rattle.brine_definition.specs.Count.{sum, count}
-use Rattle.brine_definition.specs.Page.{Row, intakeFrom, spareOf, rowOf, rowWhen, sound, rows}
+use Rattle.brine_definition.specs.Page.{Row, intakeFrom, spareOf, rowOf, rowWhen, sound, rows, rowIn}
+use Rattle.brine_definition.specs.Said.{rowAt}
 use Rattle.brine_definition.specs.Statement.{page, intakes, spares, belowZero, statementOf}
 
--- the row of a well among all wells of its sheet
-abbrev pub rowIn : (all : List Well) → Well → Row
-rowIn ws w = rowWhen (sound ws && injector w) (rowOf ws w)
-
--- the row at a place, and those from a place on
-abbrev pub rowAt : (i n : ℕ) → (sheet : List ℕ) → Row
-rowAt i n sheet = rowIn (wells n sheet) (wellAt i sheet)
-
+-- the rows from a place on
 abbrev pub rowsLeft : (i n : ℕ) → (sheet : List ℕ) → List Row
 rowsLeft i n sheet = map (rowIn (wells n sheet)) (left i n sheet)
 
@@ -30,7 +24,7 @@ module _ (n : ℕ) (sheet : List ℕ) where
   unfolding rows
   rows-all = rw (left-all n sheet)
 
-  pub rows-step : (i : ℕ) → i < n → rowsLeft i n sheet ≡ rowAt i n sheet ∷ rowsLeft (suc i) n sheet
+  pub rows-step : (i : ℕ) → i < n → rowsLeft i n sheet ≡ rowAt n i sheet ∷ rowsLeft (suc i) n sheet
   rows-step i h = rw (left-step n sheet i h)
 
   pub rows-none : rowsLeft n n sheet ≡ []

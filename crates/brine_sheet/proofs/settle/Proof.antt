@@ -1,7 +1,6 @@
 -- `brine_sheet::settle` meets its contract. The loop's invariant: the rows left have the rest of the lists and of the sums.
 -- Assumes nothing.
 use mathlib.Core.Path.{_≡_, sym, _∙_, ap}
-use mathlib.Core.Bool.{Bool, true, false}
 use mathlib.Core.List.{List, [], _++_, append-nil}
 use Prim.Native.Nat.{suc, _+_, _-_, _<_, _≤_}
 use native.Mathlib.Numerals.{add-one}
@@ -19,8 +18,10 @@ use Rattle.plan_record.proofs.Total.{well-read}
 use Rattle.brine_definition.specs.Count.{sum, count}
 use Rattle.brine_definition.specs.Page.{Row, rows}
 use Rattle.brine_definition.specs.Statement.{intakes, spares, belowZero}
+use Rattle.brine_definition.specs.Said.{rowAt}
+use Rattle.brine_definition.proofs.Sums.{pick-most}
 use Rattle.brine_sheet.proofs.Lists.{stored, next}
-use Rattle.brine_sheet.proofs.Rows.{rowAt, rowsLeft, rows-all, rows-step, rows-none, spare-in, statement-of}
+use Rattle.brine_sheet.proofs.Rows.{rowsLeft, rows-all, rows-step, rows-none, spare-in, statement-of}
 use Rattle.brine_sheet.proofs.settle.Statement.{statement}
 use Rattle.brine_sheet.proofs.settle.Tie as tie
 
@@ -48,7 +49,7 @@ start c = c .before .before .before .before
 
 -- the row at the place, and the rows after it
 abbrev row : tie.In-loop Inv-loop μ-loop → Row
-row c = rowAt (c .before .loop .i) (start c .args .n) (now (start c .args .sheet))
+row c = rowAt (start c .args .n) (c .before .loop .i) (now (start c .args .sheet))
 
 abbrev after : tie.In-loop Inv-loop μ-loop → List Row
 after c = rowsLeft (suc (c .before .loop .i)) (start c .args .n) (now (start c .args .sheet))
@@ -84,16 +85,12 @@ spare-is c =
     ∙ (rw read at (c .spare-of .ensures))
     ∙ spare-in (wells (s .args .n) sheet) (s .pre .2) (wellAt i sheet) _ (intake-is (d .before) .1)
 
-overloaded-is : (c : tie.After-below-zero Inv-loop μ-loop) → c .below-zero .result ≡ pick (belowZero (row (c .before .before .before .before) .spare)) 1 0
+overloaded-is : (c : tie.After-below-zero Inv-loop μ-loop)
+    → c .below-zero .result ≡ pick (belowZero (row (c .before .before .before .before) .spare)) 1 0
 overloaded-is c = rw (← spare-is (c .before)) (c .below-zero .ensures)
 
-at-most : (b : Bool) → pick b 1 0 ≤ 1
-unfolding pick
-at-most true = omega arith
-at-most false = omega arith
-
 one-more : (c : tie.After-below-zero Inv-loop μ-loop) → c .below-zero .result ≤ 1
-one-more c = rw (overloaded-is c) (at-most (belowZero (row (c .before .before .before .before) .spare)))
+one-more c = rw (overloaded-is c) (pick-most (belowZero (row (c .before .before .before .before) .spare)) 1 1 (λ e. omega arith))
 
 loop-again : tie.Need-loop-again Inv-loop μ-loop
 unfolding spares count

@@ -2,30 +2,24 @@
 -- which is its negation, fit.
 -- Assumes nothing.
 use mathlib.Core.Path.{_≡_, _∙_, ap}
-use mathlib.Core.Bool.{Bool, true, false, cond}
-use Prim.Native.Nat.{ℕ, zero, suc, _-_, _*_, _^_, _<_}
+use Prim.Native.Nat.{ℕ, _*_, _^_, _<_}
 use native.Mathlib.Omega.{arith}
 use borrow.Author.Needs.{needs}
 use borrow.Author.Tests.{eq-eqb, ne-eqb}
-use lib.Dec.{ltb}
-use lib.IntN.{ℤ, pos, negsuc, negℤ, _+ℤ_, _-ℤ_, negℤ-+ℤ, negℤ-negℤ, +ℤ-idl, +ℤ-comm}
+use lib.IntN.{ℤ, pos, negℤ, _+ℤ_, _-ℤ_, negℤ-+ℤ, negℤ-negℤ, +ℤ-idl, +ℤ-comm}
 use lib.Signed.{mag}
 use mir.Syntax.{w64}
 use mir.Val.{SFits, toZ, ofZ}
 use mir.ValLaws.{toZ-ofZ, toZ-pos}
 use Rattle.plan_definition.specs.Rules.{injector}
 use Rattle.brine_definition.specs.Page.{spareOf, rowWhen}
+use Rattle.brine_definition.proofs.Spare.{by-minus}
 use Rattle.brine_sheet.proofs.spare_of.Statement.{statement}
 use Rattle.brine_sheet.proofs.spare_of.Tie as tie
 
 -- a difference lies no further from 0 than its two numbers
 within : (a b k : ℕ) → a < k → b < k → mag (pos a -ℤ pos b) < k
-within a zero k h g = omega arith
-within a (suc b) k h g = go (ltb a (suc b))
-  where
-    go : (t : Bool) → mag (cond t (negsuc (suc b - suc a)) (pos (a - suc b))) < k
-    go true = omega arith
-    go false = omega arith
+within a b k h g = by-minus a b (λ z. mag z < k) (λ l. omega arith) (λ l. omega arith)
 
 -- its negation is the difference the other way
 turned : (a b : ℕ) → pos 0 -ℤ (pos a -ℤ pos b) ≡ pos b -ℤ pos a
