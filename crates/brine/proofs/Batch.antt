@@ -12,6 +12,7 @@ use Rattle.plan_definition.specs.Well.{wells}
 use Rattle.plan_definition.proofs.Some.{none-among, among-cons}
 use Rattle.brine_definition.specs.Count.{sum}
 use Rattle.brine_definition.specs.Statement.{batch}
+use Rattle.brine_definition.proofs.Sound.{next-sheet}
 use Rattle.brine_definition.proofs.Outcomes.{given}
 use Rattle.brine_definition.proofs.Refused.{none-refused}
 
@@ -21,10 +22,10 @@ leftFrom k at counts sheets = batch (drop k counts) (drop (40 * at) sheets)
 
 pub left-step : (counts sheets : List ℕ) (k at : ℕ) → k < length counts
     → leftFrom k at counts sheets ≡ wells (getD counts k 0) (drop (40 * at) sheets) ∷ leftFrom (suc k) (at + getD counts k 0) counts sheets
-unfolding batch
 left-step counts sheets k at h =
-    let e : 40 * (at + getD counts k 0) ≡ 40 * at + 40 * getD counts k 0 = omega arith in
-    rw (drop-cons counts k 0 h, e, drop-drop (40 * getD counts k 0) (40 * at) sheets)
+    let n = getD counts k 0 in
+    let e : 40 * (at + n) ≡ 40 * at + 40 * n = omega arith in
+    rw (drop-cons counts k 0 h, next-sheet n (drop (suc k) counts) (drop (40 * at) sheets), e, drop-drop (40 * n) (40 * at) sheets)
 
 pub allowed-alone : (sheet : List ℕ) (n : ℕ) (intake : List ℕ) (spare : List ℤ)
     → n ≤ 1024 → 40 * n ≤ length sheet → n ≤ length intake → n ≤ length spare → given sheet (n ∷ []) intake spare ≡ 0

@@ -4,9 +4,9 @@ use mathlib.Core.Path.{_≡_, refl, ap, _∙_}
 use mathlib.Core.Logic.{_↔_, Iff·trans}
 use mathlib.Core.Bool.{true, false, false≢true}
 use mathlib.Core.List.{List, [], _∷_, map}
-use Prim.Native.Nat.{ℕ, suc}
+use Prim.Native.Nat.{ℕ, suc, _*_}
 use lib.IntN.{pos}
-use lib.ListN.{length, replicate, length-append, length-map}
+use lib.ListN.{length, drop, replicate, length-append, length-map}
 use Rattle.sheet_definition.specs.Run.{cut}
 use Rattle.sheet_definition.proofs.Joined.{length-cut}
 use Rattle.plan_definition.specs.declared.Well.{Well}
@@ -75,3 +75,8 @@ pub length-batch : (counts sheets : List ℕ) → length (batch counts sheets) �
 unfolding batch
 length-batch [] sheets = refl
 length-batch (n ∷ ns) sheets = ap suc (length-batch ns _)
+
+-- each sheet begins where the one before it ends, faulted or not
+pub next-sheet : (n : ℕ) (ns sheets : List ℕ) → batch (n ∷ ns) sheets ≡ wells n sheets ∷ batch ns (drop (40 * n) sheets)
+unfolding batch
+next-sheet n ns sheets = refl
