@@ -8,28 +8,25 @@ use brine_definition::Statement;
 use sheet_definition::MOST;
 use sheet_definition::RECORD;
 
-// The refusal that a batch adds to those of its sheets.
-pub const BATCH: u64 = 13;
-
 // Which refusal comes first, from counts and lengths alone. Every count is held to the most before it is added, so that no sum wraps.
-fn judge(sheets: usize, counts: &[usize], intake: usize, spare: usize) -> u64
+fn judge(sheets: usize, counts: &[usize], intake: usize, spare: usize) -> u32
     ensures { λ r. ⌜ r ≡ firstOf (brineRefusals sheets (now (counts .entry)) intake spare) ⌝ }
 {
     if SHEETS_MOST < counts.len() {
-        return BATCH;
+        return refusals::BATCH;
     }
     let mut total = 0;
     let mut k = 0;
     while k < counts.len() {
         let n = counts[k];
         if MOST < n {
-            return sheet_judge::SHEET;
+            return refusals::SHEET;
         }
         total += n;
         k += 1;
     }
     if sheets < RECORD * total {
-        return sheet_judge::SHEET;
+        return refusals::SHEET;
     }
     brine_sheet::listed(intake, spare, total)
 }
@@ -70,7 +67,7 @@ fn sheet_after_sheet(
         k += 1;
     }
     Statement {
-        number: sheet_judge::DONE,
+        number: refusals::DONE as u64,
         sound,
         faulted,
         intake: total,
@@ -88,9 +85,9 @@ pub fn statement(
     ensures { λ r. ⌜ record { answer = r; intake = now (intake .exit); spare = now (spare .exit) } ≡ brineOutcome (now (sheets .entry)) (now (counts .entry)) (now (intake .entry)) (now (spare .entry)) ⌝ }
 {
     let number = judge(sheets.len(), counts, intake.len(), spare.len());
-    if number != sheet_judge::DONE {
+    if number != refusals::DONE {
         return Statement {
-            number,
+            number: number as u64,
             sound: 0,
             faulted: 0,
             intake: 0,

@@ -10,7 +10,8 @@ use lib.ListN.{length, getD, drop}
 use lib.Signed.{mag}
 use mir.Syntax.{w64}
 use mir.Val.{SFits}
-use Rattle.definition.proofs.Every.{Every, every-append, every-at}
+use Rattle.definition.specs.Buffer.{Every}
+use Rattle.definition.proofs.Every.{every-append, every-at}
 use Rattle.plan_definition.specs.declared.Well.{Well}
 use Rattle.plan_definition.specs.Some.{Among}
 use Rattle.plan_definition.specs.Some.Among.{here, later}

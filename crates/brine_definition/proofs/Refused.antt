@@ -11,12 +11,11 @@ use lib.Dec.{ltb}
 use lib.IntN.{ℤ}
 use lib.ListN.{length, drop}
 use lib.Seq.{length-front, length-take-le}
-use Rattle.definition.specs.Refusal.{Refusal, firstOf}
-use Rattle.definition.proofs.Every.{Every}
-use Rattle.definition.proofs.Refusals.{First, NoneHolds, first-given, given-first, none-given, given-none}
-use Rattle.definition.proofs.Refusals.First.{here, later}
-use Rattle.definition.proofs.Refusals.NoneHolds.{none, more}
-use Rattle.definition.proofs.Refusals.Numbered.{none as no-more, more as one-more}
+use Rattle.definition.specs.Refusal.{Refusal, First, NoneHolds, firstOf}
+use Rattle.definition.specs.Buffer.{Every}
+use Rattle.definition.specs.Refusal.First.{here, later}
+use Rattle.definition.specs.Refusal.NoneHolds.{none, more}
+use Rattle.definition.proofs.Refusals.{given-exactly, none-exactly}
 use Rattle.plan_definition.specs.Some.{some}
 use Rattle.plan_definition.proofs.Exactly.{Passes, Fails, less, not-less, either, neither, one-passes, none-passes}
 use Rattle.brine_definition.specs.Count.{sum}
@@ -66,7 +65,7 @@ module _ (sheets : ℕ) (counts : List ℕ) (intake spare : ℕ) where
   number = firstOf (brineRefusals sheets counts intake spare)
 
   is-first : {A : Type 0} (k : ℕ) → First (suc k) (brineRefusals sheets counts intake spare) ↔ A → (number ≡ suc k) ↔ A
-  is-first k i = (λ e. i .0 (given-first _ e), λ a. first-given (i .1 a))
+  is-first k i = Iff·trans (given-exactly k _) i
 
   pub too-many : (number ≡ 13) ↔ TooMany counts
   unfolding brineRefusals
@@ -87,7 +86,7 @@ module _ (sheets : ℕ) (counts : List ℕ) (intake spare : ℕ) where
   pub none-refused : (number ≡ 0) ↔ (Few counts × (Room sheets counts × Long counts intake spare))
   unfolding brineRefusals
   none-refused =
-      Iff·trans (given-none (one-more (one-more (one-more no-more))), none-given)
+      Iff·trans (none-exactly _ (omega arith))
       (none-holds few (none-holds room (last-fails (neither (not-less intake (sum counts)) (not-less spare (sum counts))))))
 
 -- so the lists keep their lengths

@@ -42,7 +42,7 @@ pick-most true a m h = h refl
 pick-most false a m h = omega arith
 
 -- nothing is nothing, let in or not
-pub pick-zero : (b : Bool) → pick b 0 0 ≡ 0
+pub pick-zero : (b : Bool) → pick {A = ℕ} b 0 0 ≡ 0
 unfolding pick
 pick-zero true = refl
 pick-zero false = refl

@@ -9,7 +9,7 @@ use lib.Dec.{ltb}
 use lib.IntN.{ℤ}
 use lib.ListN.{length, drop}
 use Rattle.definition.specs.Refusal.{pick, firstOf, whenDone}
-use Rattle.sheet_definition.specs.Sheet.{sheetRefusal}
+use Rattle.sheet_definition.specs.Refusals.{sheetRefusal}
 use Rattle.plan_definition.specs.declared.Well.{Well}
 use Rattle.plan_definition.specs.declared.Verdict.{Verdict}
 use Rattle.plan_definition.specs.Some.{some}

@@ -23,10 +23,7 @@ use plan_definition::Link;
 use plan_definition::PRODUCER;
 use plan_definition::Verdict;
 use plan_definition::Well;
-use sheet_judge::DONE;
-
-// The refusal that the statement adds to the sheet's: a list shorter than the records.
-const LIST: u64 = 25;
+use refusals::DONE;
 
 // Zeros in both lists.
 fn clear(intake: &mut [u64], spare: &mut [i64])
@@ -174,31 +171,21 @@ fn page(
     if says_sound(plan::check(sheet, n)) {
         return sound_sheet(sheet, n, places, intake, spare);
     }
-    bare(DONE, 1)
+    bare(DONE as u64, 1)
 }
 
-// Refusal 25 alone: whether both lists have a place for each of so many records.
-pub fn listed(intake: usize, spare: usize, records: usize) -> u64
+// 25: whether both lists have a place for each of so many records.
+pub fn listed(intake: usize, spare: usize, records: usize) -> u32
     ensures { λ r. ⌜ r ≡ firstOf (listRefusal records intake spare ∷ []) ⌝ }
 {
-    if intake < records {
-        return LIST;
-    }
-    if spare < records {
-        return LIST;
-    }
-    DONE
+    refusals::when((intake < records) | (spare < records), refusals::LIST)
 }
 
 // The first refusal of a batch of one sheet, from its numbers alone.
-fn judged(sheet: usize, n: usize, intake: usize, spare: usize) -> u64
+fn judged(sheet: usize, n: usize, intake: usize, spare: usize) -> u32
     ensures { λ r. ⌜ r ≡ firstOf (brineRefusals sheet (n ∷ []) intake spare) ⌝ }
 {
-    let five = sheet_judge::held(sheet, n);
-    if five != DONE {
-        return five;
-    }
-    listed(intake, spare, n)
+    refusals::first(sheet_judge::records(n, sheet), listed(intake, spare, n))
 }
 
 // The brine statement over a batch of this sheet alone. The table is lent so that a batch has one for all its sheets;
@@ -214,7 +201,7 @@ pub fn statement(
 {
     let number = judged(sheet.len(), n, intake.len(), spare.len());
     if number != DONE {
-        return bare(number, 0);
+        return bare(number as u64, 0);
     }
     page(sheet, n, places, &mut intake[..n], &mut spare[..n])
 }

@@ -8,7 +8,7 @@ use native.Mathlib.Omega.{arith}
 use borrow.Author.Tests.{le-leb, lt-leb}
 use lib.ListN.{length, length-append}
 use Rattle.definition.specs.Buffer.{overwriteAt, overwrite}
-use Rattle.definition.proofs.Buffer.{overwriteAt-more, overwrite-more, overwriteAt-none, length-overwrite, length-overwriteAt}
+use Rattle.definition.proofs.Buffer.{overwriteAt-more, overwriteAt-none, length-overwriteAt}
 use Rattle.bytes.specs.Total.{writeWhen, writeAt}
 
 -- where there is room
@@ -23,7 +23,7 @@ write-not i p l h = rw (lt-leb (i + length p) (length l) h)
 
 pub write-more : (p v l : List ℕ) (i : ℕ) → length p ≡ i → i + length v ≤ length l → writeAt i v (overwrite p l) ≡ overwrite (p ++ v) l
 write-more p v l i e h =
-    write-at i v (overwrite p l) (omega (arith, length-overwrite p l (omega arith))) ∙ overwrite-more p v l i e
+    write-at i v (overwrite p l) (omega (arith, length-overwriteAt 0 p l (omega arith))) ∙ overwriteAt-more 0 i p v l (omega arith) (omega arith)
 
 pub writeAt-more : (i j : ℕ) (p v l : List ℕ) → i + length p ≡ j → j + length v ≤ length l
     → writeAt j v (writeAt i p l) ≡ writeAt i (p ++ v) l

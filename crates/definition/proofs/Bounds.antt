@@ -21,7 +21,8 @@ use Rattle.definition.specs.Injection.{inject}
 use Rattle.definition.specs.Round.{permuteFrom, round, chain}
 use Rattle.definition.specs.Start.{blockCount, startingVariables, start}
 use Rattle.definition.specs.State.{five, stateOf}
-use Rattle.definition.proofs.Every.{Every, every-at}
+use Rattle.definition.specs.Buffer.{Every}
+use Rattle.definition.proofs.Every.{every-at}
 use Rattle.definition.proofs.Bits.{bit-lt}
 use Rattle.definition.proofs.Chain.{length-inject, count-le}
 use Rattle.definition.proofs.Computed.{everything}

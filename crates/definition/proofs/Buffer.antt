@@ -1,17 +1,13 @@
 -- Writing into a buffer piece by piece.
 -- Assumes nothing.
-use mathlib.Core.Path.{_≡_, refl}
+use mathlib.Core.Path.{_≡_}
 use mathlib.Core.List.{List, [], _++_, append-assoc, append-nil}
 use Prim.Native.Nat.{ℕ, _+_, _-_, _≤_}
-use native.Mathlib.Nat.{add-assoc, add-zero, zero-add}
+use native.Mathlib.Nat.{add-assoc, add-zero}
 use native.Mathlib.Omega.{arith}
 use lib.ListN.{length, take, drop, length-append, length-drop, take-append-drop}
 use lib.Seq.{take-at, drop-at, take-take, take-append-le, drop-drop, drop-append-add, length-take-le}
-use Rattle.definition.specs.Buffer.{overwriteAt, overwrite}
-
-pub overwrite-none : (l : List ℕ) → overwrite [] l ≡ l
-unfolding overwrite
-overwrite-none l = refl
+use Rattle.definition.specs.Buffer.{overwriteAt}
 
 -- the next piece behind one that was written from place i on
 pub overwriteAt-more : (i j : ℕ) (p v l : List ℕ) → i ≤ length l → i + length p ≡ j
@@ -35,18 +31,6 @@ length-overwriteAt i p l h =
       length-take-le i l (omega arith),
       length-drop (i + length p) l,
     )
-
--- in front is from place 0 on
-pub overwrite-front : (p l : List ℕ) → overwriteAt 0 p l ≡ overwrite p l
-unfolding overwriteAt overwrite
-overwrite-front p l = rw zero-add
-
--- the next piece behind what was written in front
-pub overwrite-more : (p v l : List ℕ) (i : ℕ) → length p ≡ i → overwriteAt i v (overwrite p l) ≡ overwrite (p ++ v) l
-overwrite-more p v l i e = rw (← overwrite-front p l, ← overwrite-front (p ++ v) l) (overwriteAt-more 0 i p v l (omega arith) (omega arith))
-
-pub length-overwrite : (p l : List ℕ) → length p ≤ length l → length (overwrite p l) ≡ length l
-length-overwrite p l h = rw (← overwrite-front p l) (length-overwriteAt 0 p l (omega arith))
 
 -- nothing written
 pub overwriteAt-none : (i : ℕ) (l : List ℕ) → i ≤ length l → overwriteAt i [] l ≡ l

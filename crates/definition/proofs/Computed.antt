@@ -11,11 +11,11 @@ use Rattle.definition.specs.Round.{permuteFrom, round, chain}
 use Rattle.definition.specs.Padding.{padding, padded, blocksTo, blocks}
 use Rattle.definition.specs.Start.{blockCount, startingVariables, start}
 use Rattle.definition.specs.Final.{outputs, finalRounds, final}
-use Rattle.definition.specs.Luffa.{widthAt, wordsAt, bytesAt, absorbed, luffa}
-use Rattle.definition.specs.Refusal.{pick, firstOf, whenDone, known, widthRefusal, outRefusal}
+use Rattle.definition.specs.Luffa.{widthAt, wordsAt, bytesAt, digestAfter, luffa}
+use Rattle.definition.specs.Refusal.{pick, firstOf, numbersOf, conditionOf, whenDone, known, widthRefusal, outRefusal}
 use Rattle.definition.specs.State.{five, blocksIn, stateOf}
-use Rattle.definition.specs.Buffer.{overwriteAt, overwrite}
+use Rattle.definition.specs.Buffer.{overwriteAt}
 
 unfoldable pub everything : Unit {0}
-unfolding bit fromBits rotl wordOf bytesOf bytesOfAll _⊕_ xorAll wordsOf wordAt blockOf double keep timesTo times matrix row inject S crumb subWord subCrumb mixWord polynomial g fL leftHalf exchanged constantsFrom initial constants tweak subCrumbs mixWords addConstant step steps permute permuteFrom round chain padding padded blocksTo blocks blockCount startingVariables start outputs finalRounds final widthAt wordsAt bytesAt absorbed luffa pick firstOf known widthRefusal outRefusal five blocksIn stateOf overwriteAt overwrite wordsOfAll whenDone
+unfolding bit fromBits rotl wordOf bytesOf bytesOfAll _⊕_ xorAll wordsOf wordAt blockOf double keep timesTo times matrix row inject S crumb subWord subCrumb mixWord polynomial g fL leftHalf exchanged constantsFrom initial constants tweak subCrumbs mixWords addConstant step steps permute permuteFrom round chain padding padded blocksTo blocks blockCount startingVariables start outputs finalRounds final widthAt wordsAt bytesAt digestAfter luffa pick firstOf numbersOf conditionOf known widthRefusal outRefusal five blocksIn stateOf overwriteAt wordsOfAll whenDone
 everything = tt

@@ -3,31 +3,28 @@
 use mathlib.Core.List.{List, [], _∷_, _++_}
 use Prim.Native.Nat.{ℕ, zero, suc}
 use lib.ListN.{getD, take, set}
+use Rattle.definition.specs.Buffer.{Every}
 
 module _ {A : Type 0} (P : A → Type 0) where
-  abbrev pub Every : List A → Type 0
-  Every [] = Unit
-  Every (a ∷ l) = P a × Every l
-
   -- kept by the front of a list
-  pub every-take : (l : List A) (n : ℕ) → Every l → Every (take n l)
+  pub every-take : (l : List A) (n : ℕ) → Every P l → Every P (take n l)
   every-take l zero h = tt
   every-take [] (suc n) h = tt
   every-take (a ∷ l) (suc n) h = (h .0, every-take l n (h .1))
 
   -- by two lists, one after the other
-  pub every-append : (l m : List A) → Every l → Every m → Every (l ++ m)
+  pub every-append : (l m : List A) → Every P l → Every P m → Every P (l ++ m)
   every-append [] m h k = k
   every-append (a ∷ l) m h k = (h .0, every-append l m (h .1) k)
 
   -- and by an element replaced
-  pub every-set : (l : List A) (n : ℕ) (x : A) → P x → Every l → Every (set l n x)
+  pub every-set : (l : List A) (n : ℕ) (x : A) → P x → Every P l → Every P (set l n x)
   every-set [] n x p h = tt
   every-set (a ∷ l) zero x p h = (p, h .1)
   every-set (a ∷ l) (suc n) x p h = (h .0, every-set l n x p (h .1))
 
   -- and so of the element at each place, where it holds of what stands for no element
-  pub every-at : (l : List A) (d : A) → P d → Every l → (i : ℕ) → P (getD l i d)
+  pub every-at : (l : List A) (d : A) → P d → Every P l → (i : ℕ) → P (getD l i d)
   every-at [] d p h zero = p
   every-at [] d p h (suc i) = p
   every-at (a ∷ l) d p h zero = h .0

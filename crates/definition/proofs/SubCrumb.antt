@@ -14,7 +14,8 @@ use Rattle.definition.specs.SubCrumb.{S, crumb, subWord, subCrumb}
 use Rattle.definition.specs.AppendixD.{Instruction, MOV, OR, XOR, AND, NOT, table4, execute, run, results, appendixD}
 use Rattle.definition.proofs.Bits.{bits-at, bit-zero, bit-xor, bit-and, bit-or, bit-not, from-its-bits}
 use Rattle.definition.proofs.Cases.{everyBits, at-bits}
-use Rattle.definition.proofs.Every.{Every, every-at, every-set}
+use Rattle.definition.specs.Buffer.{Every}
+use Rattle.definition.proofs.Every.{every-at, every-set}
 
 -- each register holds a number of n bits
 abbrev Below : (n : ℕ) → List ℕ → Type 0

@@ -10,8 +10,8 @@ unfoldable pub overwriteAt : ℕ → List ℕ → List ℕ → List ℕ
 overwriteAt i p l = take i l ++ p ++ drop (i + length p) l
 
 -- p written in front: document 01, "a digest stands in the first bytes of the output buffer and the bytes after it are untouched"
-unfoldable pub overwrite : List ℕ → List ℕ → List ℕ
-overwrite p l = p ++ drop (length p) l
+abbrev pub overwrite : List ℕ → List ℕ → List ℕ
+overwrite = overwriteAt 0
 
 -- the same elements, and as many
 abbrev pub same : List ℕ → List ℕ → Bool
@@ -24,3 +24,8 @@ same (x ∷ xs) (y ∷ ys) = eqb x y && same xs ys
 unfoldable pub joined : List (List ℕ) → List ℕ
 joined [] = []
 joined (p ∷ ps) = p ++ joined ps
+
+-- a property of every element of a list
+abbrev pub Every : {A : Type 0} → (A → Type 0) → List A → Type 0
+Every P [] = Unit
+Every P (a ∷ l) = P a × Every P l

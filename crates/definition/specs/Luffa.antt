@@ -23,10 +23,11 @@ wordsAt code = getD (0 ∷ 7 ∷ 8 ∷ 12 ∷ 16 ∷ []) code 0
 unfoldable pub bytesAt : ℕ → ℕ
 bytesAt code = 4 * wordsAt code
 
--- the state after the padded message's blocks
-unfoldable pub absorbed : Width → List ℕ → List Block
-absorbed w m = chain w (start w) (blocks (padded closing m))
+-- the digest, as bytes, of a message whose last bytes are x, from the state after the blocks before them: x is padded, and the final stage follows
+unfoldable pub digestAfter : (code : ℕ) → List Block → List ℕ → List ℕ
+digestAfter code h x =
+    bytesOfAll (final (widthAt code) (wordsAt code) (chain (widthAt code) h (blocks (padded closing x))))
 
--- Luffa of a message of whole bytes, as bytes
+-- Luffa of a message of whole bytes
 unfoldable pub luffa : (code : ℕ) → List ℕ → List ℕ
-luffa code m = bytesOfAll (final (widthAt code) (wordsAt code) (absorbed (widthAt code) m))
+luffa code m = digestAfter code (start (widthAt code)) m

@@ -3,8 +3,7 @@
 use Prim.Native.Nat.{ℕ, zero, suc}
 use mathlib.Core.Bool.{Bool, true, false, not, _&&_}
 use mathlib.Core.List.{List, [], _∷_}
-use lib.Dec.{leb, ltb}
-use Rattle.definition.specs.Luffa.{bytesAt}
+use lib.Dec.{leb, ltb, eqb}
 
 abbrev pub DONE : ℕ
 DONE = 0
@@ -53,13 +52,39 @@ LIST = 25
 abbrev pub Refusal : Type 0
 Refusal = ℕ × Bool
 
-unfoldable pub pick : Bool → ℕ → ℕ → ℕ
+unfoldable pub pick {ℓ} : {A : Type ℓ} → Bool → A → A → A
 pick true a b = a
 pick false a b = b
 
+-- "where several hold, the lowest number is given": the first in the call's order
 unfoldable pub firstOf : List Refusal → ℕ
 firstOf [] = DONE
 firstOf (r ∷ rs) = pick (r .1) (r .0) (firstOf rs)
+
+-- the numbers of a list in its order, and the condition that stands under a number
+unfoldable pub numbersOf : List Refusal → List ℕ
+numbersOf [] = []
+numbersOf (r ∷ rs) = r .0 ∷ numbersOf rs
+
+unfoldable pub conditionOf : (number : ℕ) → List Refusal → Bool
+conditionOf k [] = false
+conditionOf k (r ∷ rs) = pick (eqb (r .0) k) (r .1) (conditionOf k rs)
+
+-- each above the one before it
+unfoldable pub rising : List ℕ → Bool
+rising [] = true
+rising (a ∷ []) = true
+rising (a ∷ b ∷ l) = ltb a b && rising (b ∷ l)
+
+-- "given exactly when": its condition holds, and none ranked before it
+pub data First (number : ℕ) : List Refusal → Type 0 where
+  here : {rs : List Refusal} → First number ((number, true) ∷ rs)
+  later : {n : ℕ} {rs : List Refusal} → First number rs → First number ((n, false) ∷ rs)
+
+-- "0, done": no condition holds
+pub data NoneHolds : List Refusal → Type 0 where
+  none : NoneHolds []
+  more : {n : ℕ} {rs : List Refusal} → NoneHolds rs → NoneHolds ((n, false) ∷ rs)
 
 -- the first where the number is 0, else the second: what a call that is done leaves, and one that is refused
 unfoldable pub whenDone {ℓ} : {A : Type ℓ} → ℕ → A → A → A
@@ -74,6 +99,6 @@ known code = leb 1 code && leb code 4
 unfoldable pub widthRefusal : (code : ℕ) → Refusal
 widthRefusal code = (WIDTH, not (known code))
 
--- 2: the output buffer is shorter than the digest
-unfoldable pub outRefusal : (code out : ℕ) → Refusal
-outRefusal code out = (OUT, ltb out (bytesAt code))
+-- 2: the output buffer is shorter than the digest, which has so many bytes
+unfoldable pub outRefusal : (bytes out : ℕ) → Refusal
+outRefusal bytes out = (OUT, ltb out bytes)

@@ -10,12 +10,12 @@ use Rattle.definition.specs.Start.{start}
 use Rattle.definition.specs.State.{blocksIn, stateOf}
 use Rattle.definition.specs.Padding.{closing, padded, blocks}
 use Rattle.definition.specs.Final.{final}
-use Rattle.definition.specs.Luffa.{widthAt, wordsAt, absorbed, luffa}
+use Rattle.definition.specs.Luffa.{widthAt, wordsAt, digestAfter, luffa}
 use Rattle.definition.proofs.Chain.{blocks-of-start}
 
 -- from the starting variables, over a whole message: Luffa
 pub whole-message : (code : ℕ) (m : List ℕ) (s : State) → s ≡ stateOf (start (widthAt code))
     → bytesOfAll (final (widthAt code) (wordsAt code) (chain (widthAt code) (blocksIn (widthAt code) s) (blocks (padded closing m))))
     ≡ luffa code m
-unfolding luffa absorbed
+unfolding luffa digestAfter
 whole-message code m s e = rw (e, blocks-of-start)

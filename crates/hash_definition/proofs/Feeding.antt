@@ -24,7 +24,7 @@ use Rattle.definition.specs.Start.{blockCount, start}
 use Rattle.definition.specs.Final.{outputs, finalRounds, final}
 use Rattle.definition.specs.State.{five, blocksIn, stateOf}
 use Rattle.definition.specs.Buffer.{joined}
-use Rattle.definition.specs.Luffa.{widthAt, wordsAt, absorbed, luffa}
+use Rattle.definition.specs.Luffa.{widthAt, wordsAt, digestAfter, luffa}
 use Rattle.definition.specs.Refusal.{known}
 use Rattle.hash_definition.specs.Record.{limit, filled, allZero, pendingCount, pendingBytes, wellKept, started, fed, finished}
 use Rattle.definition.proofs.Conditions.{both-true}
@@ -182,7 +182,7 @@ keptOf code x = fed (started code) x
 
 -- finishing gives the digest of the message
 pub kept-finished : (code : ℕ) (x : List ℕ) → finished (keptOf code x) ≡ luffa code x
-unfolding finished luffa absorbed fed started pendingBytes pendingCount padded padding
+unfolding finished luffa digestAfter fed started pendingBytes pendingCount padded padding
 kept-finished code x =
     let w : Width = widthAt code in
     let n : length (rest x) % 32 ≡ length x % 32 = omega (arith, length-rest x) in
@@ -197,7 +197,7 @@ kept-finished code x =
 
 -- the digest of 224 bits is the first 28 bytes of that of 256 bits
 pub first28 : (m : List ℕ) → luffa 1 m ≡ take 28 (luffa 2 m)
-unfolding luffa widthAt wordsAt final finalRounds outputs wordsOf bytesOfAll bytesOf
+unfolding luffa digestAfter widthAt wordsAt final finalRounds outputs wordsOf bytesOfAll bytesOf
 first28 m = refl
 
 -- a record to begin with is well kept, and has words

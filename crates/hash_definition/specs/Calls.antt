@@ -5,7 +5,7 @@ use mathlib.Core.Bool.{not}
 use mathlib.Core.List.{List, [], _∷_}
 use lib.Dec.{ltb, eqb}
 use lib.ListN.{length}
-use Rattle.definition.specs.Luffa.{luffa}
+use Rattle.definition.specs.Luffa.{bytesAt, luffa}
 use Rattle.definition.specs.Buffer.{overwrite}
 use Rattle.definition.specs.Refusal.{Refusal, RECORD, LONG, firstOf, whenDone, widthRefusal, outRefusal}
 use Rattle.hash_definition.specs.Record.{recordLength, limit, encode, decode, wellFormed, started, fed, finished}
@@ -27,7 +27,7 @@ unfoldable pub recordRefusal : List ℕ → Refusal
 recordRefusal r = (RECORD, not (wellFormed r))
 
 unfoldable pub digestRefusals : (code message out : ℕ) → List Refusal
-digestRefusals code message out = widthRefusal code ∷ outRefusal code out ∷ longRefusal 0 message ∷ []
+digestRefusals code message out = widthRefusal code ∷ outRefusal (bytesAt code) out ∷ longRefusal 0 message ∷ []
 
 unfoldable pub startRefusals : (code record' : ℕ) → List Refusal
 startRefusals code record' = widthRefusal code ∷ (RECORD, not (eqb record' recordLength)) ∷ []
@@ -36,7 +36,7 @@ unfoldable pub feedRefusals : (record' : List ℕ) → (piece : ℕ) → List Re
 feedRefusals r piece = recordRefusal r ∷ longRefusal (decode r .count) piece ∷ []
 
 unfoldable pub finishRefusals : (record' : List ℕ) → (out : ℕ) → List Refusal
-finishRefusals r out = recordRefusal r ∷ outRefusal (decode r .code) out ∷ []
+finishRefusals r out = recordRefusal r ∷ outRefusal (bytesAt (decode r .code)) out ∷ []
 
 unfoldable pub digestOutcome : (code : ℕ) → (message out : List ℕ) → Outcome
 digestOutcome code message out =

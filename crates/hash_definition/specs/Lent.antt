@@ -7,6 +7,7 @@ use mathlib.Core.List.{List, [], _∷_}
 use lib.ListN.{length}
 use Rattle.hash_definition.specs.declared.Kept.{Kept}
 use Rattle.hash_definition.specs.declared.Lent.{Lent}
+use Rattle.definition.specs.Luffa.{bytesAt}
 use Rattle.definition.specs.Buffer.{overwrite}
 use Rattle.definition.specs.Refusal.{Refusal, RECORD, firstOf, widthRefusal, outRefusal, whenDone}
 use Rattle.hash_definition.specs.Record.{wellKept, started, fed, finished}
@@ -27,7 +28,7 @@ unfoldable pub lentFeedRefusals : Kept → (piece : ℕ) → List Refusal
 lentFeedRefusals k piece = keptRefusal k ∷ longRefusal (k .count) piece ∷ []
 
 unfoldable pub lentFinishRefusals : Kept → (out : ℕ) → List Refusal
-lentFinishRefusals k out = keptRefusal k ∷ outRefusal (k .code) out ∷ []
+lentFinishRefusals k out = keptRefusal k ∷ outRefusal (bytesAt (k .code)) out ∷ []
 
 unfoldable pub lentStartOutcome : (code : ℕ) → Kept → Lent
 lentStartOutcome code k = lentOutcome (lentStartRefusals code) (started code) k

@@ -10,11 +10,10 @@ use Rattle.definition.specs.declared.Width.{Width}
 use Rattle.definition.specs.Word.{bytesOfAll}
 use Rattle.definition.specs.Block.{wordsOfAll, wordAt, blockOf}
 use Rattle.definition.specs.Round.{chain}
-use Rattle.definition.specs.Padding.{closing, padded, blocks, rest}
+use Rattle.definition.specs.Padding.{blocks, rest}
 use Rattle.definition.specs.Start.{blockCount, start}
-use Rattle.definition.specs.Final.{final}
 use Rattle.definition.specs.State.{five, blocksIn, stateOf}
-use Rattle.definition.specs.Luffa.{widthAt, wordsAt}
+use Rattle.definition.specs.Luffa.{widthAt, digestAfter}
 use Rattle.definition.specs.Refusal.{known}
 
 -- the record's length, and where its parts begin
@@ -104,6 +103,4 @@ fed k piece =
 
 -- finishing: the pending bytes padded, and the final stage
 unfoldable pub finished : Kept → List ℕ
-finished k =
-    let w : Width = widthAt (k .code) in
-    bytesOfAll (final w (wordsAt (k .code)) (chain w (blocksIn w (k .state)) (blocks (padded closing (pendingBytes k)))))
+finished k = digestAfter (k .code) (blocksIn (widthAt (k .code)) (k .state)) (pendingBytes k)

@@ -67,9 +67,9 @@ fn first_broken(sheet: &[u8], n: usize, injectors: &[u64; 1024]) -> Verdict
 pub fn check(sheet: &[u8], n: usize) -> Verdict
     ensures { λ r. ⌜ r ≡ verdict (now (sheet .entry)) n ⌝ }
 {
-    let number = sheet_judge::held(sheet.len(), n);
-    if number != sheet_judge::DONE {
-        return Verdict::Refused(number);
+    let number = sheet_judge::records(n, sheet.len());
+    if number != refusals::DONE {
+        return Verdict::Refused(number as u64);
     }
     let mut injectors = [0u64; 1024];
     put_injectors(sheet, n, &mut injectors);

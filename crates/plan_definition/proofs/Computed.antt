@@ -1,6 +1,6 @@
 -- The line `unfolding everything` opens all definitions of the check, so that the checker computes them.
 use Rattle.definition.specs.Refusal.{pick, firstOf, whenDone}
-use Rattle.sheet_definition.specs.Sheet.{sheetRefusal}
+use Rattle.sheet_definition.specs.Refusals.{sheetRefusal}
 use Rattle.sheet_definition.specs.Run.{cut}
 use Rattle.plan_definition.specs.Some.{some}
 use Rattle.plan_definition.specs.Well.{two, four, linkAt, wellOf, wellsFrom, wells}

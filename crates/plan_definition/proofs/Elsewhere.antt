@@ -9,7 +9,7 @@ use lib.Dec.{ltb}
 use lib.ListN.{length, getD, take, drop}
 use lib.Seq.{getD-take, getD-drop}
 use borrow.Author.Tests.{ltb-true, le-ltb}
-use Rattle.sheet_definition.specs.Sheet.{sheetRefusal}
+use Rattle.sheet_definition.specs.Refusals.{sheetRefusal}
 use Rattle.plan_definition.specs.Well.{two, four, linkAt, wellOf, wells}
 use Rattle.plan_definition.specs.Check.{checkRefusals, verdict}
 use Rattle.plan_definition.proofs.Places.{wellAt, left, left-all, left-step, left-none}

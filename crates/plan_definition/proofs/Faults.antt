@@ -8,10 +8,9 @@ use Prim.Native.Nat.{ℕ, zero, suc, _<_, _≤_}
 use native.Mathlib.Nat.{le-refl}
 use native.Mathlib.Omega.{arith}
 use Rattle.definition.specs.Refusal.{Refusal, firstOf}
-use Rattle.definition.proofs.Every.{Every}
-use Rattle.definition.proofs.Refusals.{First, first-given, given-first, none-given, given-none}
-use Rattle.definition.proofs.Refusals.First.{here as first, later as next}
-use Rattle.definition.proofs.Refusals.Numbered.{none, more}
+use Rattle.definition.specs.Buffer.{Every}
+use Rattle.definition.specs.Refusal.{First}
+use Rattle.definition.proofs.Refusals.{of-first, first-given, given-first, none-exactly}
 use Rattle.plan_definition.specs.declared.Well.{Well}
 use Rattle.plan_definition.specs.declared.Rule.{Rule}
 use Rattle.plan_definition.specs.declared.Rule.the-variants.{Number, Kind, LinkCount, Rate, Links, Shares, UnusedLinks, Repeat}
@@ -47,11 +46,6 @@ unfolding foundAt
 found zero place rest h = absurd (omega arith)
 found (suc k) place rest h = refl
 
--- what holds of every number in a list holds of the one given first
-of-first : {k : ℕ} {rs : List Refusal} (P : ℕ → Type 0) → First k rs → Every (λ r. P (r .0)) rs → P k
-of-first P first h = h .0
-of-first P (next f) h = of-first P f (h .1)
-
 -- the wells from a place on stand at places that rise
 abbrev pub Rising : List Well → Type 0
 Rising [] = Unit
@@ -82,7 +76,7 @@ module _ (all : List Well) where
   -- 0 stands for a well that keeps the rules, any other number for one of them
   no-fault : (w : Well) → (firstOf (rulesAt all w) ≡ 0) ↔ Keeps all w
   unfolding rulesAt rulesBy
-  no-fault w = Iff·trans (given-none (more (more (more (more (more (more (more (more none)))))))), none-given) (keeps all w)
+  no-fault w = Iff·trans (none-exactly (rulesAt all w) (omega arith)) (keeps all w)
 
   number-back : (w : Well) {k : ℕ} → First k (rulesAt all w) → ruleNumber (ruleOf k) ≡ k
   unfolding rulesAt rulesBy ruleOf

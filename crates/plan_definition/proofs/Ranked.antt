@@ -7,9 +7,9 @@ use mathlib.Core.List.{List, [], _∷_}
 use Prim.Native.Nat.{ℕ}
 use Rattle.definition.specs.Refusal.{Refusal}
 use Rattle.definition.proofs.Conditions.{other-way}
-use Rattle.definition.proofs.Refusals.{First, NoneHolds}
-use Rattle.definition.proofs.Refusals.First.{here, later}
-use Rattle.definition.proofs.Refusals.NoneHolds.{none as no-more, more as one-more}
+use Rattle.definition.specs.Refusal.{First, NoneHolds}
+use Rattle.definition.specs.Refusal.First.{here, later}
+use Rattle.definition.specs.Refusal.NoneHolds.{none as no-more, more as one-more}
 use Rattle.plan_definition.specs.declared.Well.{Well}
 use Rattle.plan_definition.specs.Rules.{rulesBy, rulesAt}
 use Rattle.plan_definition.specs.Sound.{Keeps, Sentence, FirstFalse, sentencesAt}

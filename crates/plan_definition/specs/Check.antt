@@ -3,7 +3,7 @@ use Prim.Native.Nat.{ℕ, zero, suc}
 use mathlib.Core.List.{List, [], _∷_}
 use lib.ListN.{length, getD}
 use Rattle.definition.specs.Refusal.{Refusal, firstOf, whenDone}
-use Rattle.sheet_definition.specs.Sheet.{sheetRefusal}
+use Rattle.sheet_definition.specs.Refusals.{sheetRefusal}
 use Rattle.plan_definition.specs.declared.Well.{Well}
 use Rattle.plan_definition.specs.declared.Rule.{Rule}
 use Rattle.plan_definition.specs.declared.Rule.the-variants.{Number, Kind, LinkCount, Rate, Links, Shares, UnusedLinks, Repeat}

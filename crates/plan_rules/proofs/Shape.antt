@@ -3,14 +3,14 @@
 use mathlib.Core.Path.{_≡_}
 use mathlib.Core.Logic._⊎_.{inl, inr}
 use mathlib.Core.Bool.{Bool, false}
-use mathlib.Core.List.{[]}
 use Prim.Native.Nat.{ℕ, _≤_}
 use native.Mathlib.Omega.{arith}
 use borrow.Author.Tests.{eq-eqb, ne-eqb}
-use Rattle.definition.specs.Refusal.{pick, firstOf}
-use Rattle.definition.proofs.Refusals.{none, more, front-given, rest-given, none-of}
+use Rattle.definition.specs.Refusal.{pick, firstOf, conditionOf}
+use Rattle.definition.proofs.Refusals.{front-given, rest-given, fails}
 use Rattle.plan_definition.specs.declared.Well.{Well}
-use Rattle.plan_definition.specs.Rules.{injector, breaksKind, breaksLinkCount, rulesBy}
+use Rattle.plan_definition.specs.declared.Rule.the-variants.{Kind, LinkCount}
+use Rattle.plan_definition.specs.Rules.{injector, breaksKind, breaksLinkCount, ruleNumber, rulesBy}
 use Rattle.plan_definition.specs.Sound.{KeepsKind, KeepsLinkCount}
 use Rattle.plan_definition.proofs.Kept.{kind-kept, link-count-kept}
 use Rattle.plan_rules.specs.Parts.{shapeRules, linkRules}
@@ -22,12 +22,12 @@ module _ (f g : ℕ → Bool) (w : Well) {k : ℕ} (e : k ≡ firstOf (shapeRule
 
   pub after-shape : k ≡ 0 → firstOf (rulesBy f g w) ≡ firstOf (linkRules f g w)
   unfolding shapeRules linkRules rulesBy
-  after-shape = rest-given (linkRules f g w) (more (more (more (more none)))) e
+  after-shape = rest-given (shapeRules w) (linkRules f g w) (omega arith) e
 
 module _ (w : Well) (e : firstOf (shapeRules w) ≡ 0) where
   kept : (breaksKind w ≡ false) × (breaksLinkCount w ≡ false)
-  unfolding shapeRules rulesBy
-  kept = let h = none-of (shapeRules w) [] (omega arith) e .0 in (h .1 .0, h .1 .1 .0)
+  unfolding shapeRules rulesBy conditionOf pick
+  kept = let h = fails (shapeRules w) (omega arith) e in (h (ruleNumber Kind), h (ruleNumber LinkCount))
 
   -- at most four, and none of an injector
   few : KeepsKind w → KeepsLinkCount w → (w .count ≤ 4) × (pick (injector w) 0 (w .count) ≡ w .count)

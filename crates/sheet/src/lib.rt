@@ -3,11 +3,12 @@
 ghost use mathlib.Core.Path.{_≡_};
 ghost use lib.ListN.{length};
 ghost use Rattle.sheet_definition.specs.SheetCalls.{buildOutcome, changeOutcome, appendOutcome, dropOutcome};
-ghost use Rattle.sheet.specs.Save.{Judged, saveOutcome};
+ghost use Rattle.sheet_definition.specs.Save.{saveOutcome};
+ghost use Rattle.sheet.specs.Save.{Judged, recordSave};
+use refusals::DONE;
 use sheet_definition::Answer;
+use sheet_definition::MOST;
 use sheet_definition::RECORD;
-use sheet_judge::DONE;
-use sheet_judge::STALE;
 
 // All marks of a sheet, and its digest.
 pub fn build(code: usize, sheet: &[u8], n: usize, marks: &mut [u32], out: &mut [u8]) -> Answer
@@ -16,7 +17,7 @@ pub fn build(code: usize, sheet: &[u8], n: usize, marks: &mut [u32], out: &mut [
     let number = sheet_judge::build(code, sheet.len(), n, marks.len(), out.len());
     if number != DONE {
         return Answer {
-            number: number,
+            number: number as u64,
             count: n as u64,
             rounds: 0,
         };
@@ -24,15 +25,16 @@ pub fn build(code: usize, sheet: &[u8], n: usize, marks: &mut [u32], out: &mut [
     sheet_marks::write(marks, 0, rounds::start(codes::width(code)));
     let rounds = sheet_work::work_on(code, sheet, n, marks, 0, 0, out);
     Answer {
-        number: DONE,
+        number: DONE as u64,
         count: n as u64,
         rounds: rounds,
     }
 }
 
-// A save whose other arguments were judged: a record written at its place, from n records to count, where the claim is the digest of the
-// sheet held.
+// A save of one record, by the number that its arguments were judged by: the record written at its place, from n records to count, where the
+// claim is the digest of the sheet held.
 fn save(
+    number: u32,
     code: usize,
     sheet: &mut [u8],
     n: usize,
@@ -43,22 +45,22 @@ fn save(
     claim: &[u8],
     out: &mut [u8],
 ) -> Answer
-    requires { ⌜ Judged code (length (now sheet)) n (length (now marks)) place (length (now «record»)) count (length (now claim)) (length (now out)) ⌝ }
-    ensures { λ r. ⌜ record { answer = r; sheet = now (sheet .exit); marks = now (marks .exit); out = now (out .exit) } ≡ saveOutcome code (now (sheet .entry)) n (now (marks .entry)) place (now («record» .entry)) count (now (claim .entry)) (now (out .entry)) ⌝ }
+    requires { ⌜ (number ≡ 0 → Judged code (length (now sheet)) n (length (now marks)) place (length (now «record»)) count (length (now claim)) (length (now out))) ⌝ }
+    ensures { λ r. ⌜ record { answer = r; sheet = now (sheet .exit); marks = now (marks .exit); out = now (out .exit) } ≡ saveOutcome (record { code = code; n = n; sheet = now (sheet .entry); marks = now (marks .entry) }) (recordSave number (record { code = code; n = n; sheet = now (sheet .entry); marks = now (marks .entry) }) place (now («record» .entry)) count (now (claim .entry)) (now (out .entry))) ⌝ }
 {
-    let check = sheet_work::check(code, sheet, n, marks, claim);
-    if check.stale {
+    let begun = sheet_work::admit(number, code, sheet, n, marks, claim);
+    if begun.number != DONE {
         return Answer {
-            number: STALE,
+            number: begun.number as u64,
             count: n as u64,
-            rounds: check.rounds,
+            rounds: begun.rounds,
         };
     }
     bytes::put_bytes(sheet, RECORD * place, record);
     sheet_marks::clear(marks, n, count);
-    let rounds = sheet_work::work_on(code, sheet, count, marks, place / 4, check.rounds, out);
+    let rounds = sheet_work::work_on(code, sheet, count, marks, place / 4, begun.rounds, out);
     Answer {
-        number: DONE,
+        number: DONE as u64,
         count: count as u64,
         rounds: rounds,
     }
@@ -87,14 +89,7 @@ pub fn change(
         claim.len(),
         out.len(),
     );
-    if number != DONE {
-        return Answer {
-            number: number,
-            count: n as u64,
-            rounds: 0,
-        };
-    }
-    save(code, sheet, n, marks, place, record, n, claim, out)
+    save(number, code, sheet, n, marks, place, record, n, claim, out)
 }
 
 // A record added at the end, where the claim is the digest of the sheet held.
@@ -118,14 +113,9 @@ pub fn append(
         claim.len(),
         out.len(),
     );
-    if number != DONE {
-        return Answer {
-            number: number,
-            count: n as u64,
-            rounds: 0,
-        };
-    }
-    save(code, sheet, n, marks, n, record, n + 1, claim, out)
+    // a full sheet is refused, so nothing is added to a count that has no room for it
+    let more = n + (n < MOST) as usize;
+    save(number, code, sheet, n, marks, n, record, more, claim, out)
 }
 
 // The last record taken away and its room zeroed, where the claim is the digest of the sheet held.
@@ -140,13 +130,18 @@ pub fn drop(
     ensures { λ r. ⌜ record { answer = r; sheet = now (sheet .exit); marks = now (marks .exit); out = now (out .exit) } ≡ dropOutcome code (now (sheet .entry)) n (now (marks .entry)) (now (claim .entry)) (now (out .entry)) ⌝ }
 {
     let number = sheet_judge::drop(code, sheet.len(), n, marks.len(), claim.len(), out.len());
-    if number != DONE {
-        return Answer {
-            number: number,
-            count: n as u64,
-            rounds: 0,
-        };
-    }
-    let last = n - 1;
-    save(code, sheet, n, marks, last, &[0u8; 40], last, claim, out)
+    // an empty sheet is refused, so nothing is taken from 0
+    let last = n - (0 < n) as usize;
+    save(
+        number,
+        code,
+        sheet,
+        n,
+        marks,
+        last,
+        &[0u8; 40],
+        last,
+        claim,
+        out,
+    )
 }

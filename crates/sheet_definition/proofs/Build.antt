@@ -1,125 +1,155 @@
 -- An accepted build leaves true marks, whatever they were, and hands out Luffa of the sheet, in document 01's rounds.
 -- Assumes nothing.
 use mathlib.Core.Path.{_≡_, refl, sym, ap, _∙_}
-use mathlib.Core.List.{List, []}
+use mathlib.Core.Logic.{_↔_}
+use mathlib.Core.List.{List, [], append-nil}
 use Prim.Native.Nat.{ℕ, zero, suc, _+_, _*_, _≤_}
 use native.Mathlib.Nat.{zero-add}
 use native.Mathlib.Omega.{arith}
-use lib.ListN.{length, drop}
-use lib.Seq.{take-at}
+use lib.ListN.{length, take, drop}
 use Rattle.definition.specs.declared.Width.{Width}
 use Rattle.definition.specs.Round.{chain}
 use Rattle.definition.specs.Padding.{blocks, blocksTo}
 use Rattle.definition.specs.Start.{start}
 use Rattle.definition.specs.Luffa.{widthAt}
 use Rattle.definition.specs.Buffer.{overwrite}
-use Rattle.sheet_definition.specs.Sheet.{q, buildRounds, buildRefusals}
-use Rattle.sheet_definition.specs.Marks.{Worked, markAt, stateFrom, markOf, worked, TrueMark}
-use Rattle.sheet_definition.specs.SheetCalls.{SheetOutcome, refusedWith, acceptedWith, buildOutcome}
-use Rattle.definition.proofs.Buffer.{length-overwrite, drop-overwriteAt, overwrite-front}
+use Rattle.definition.specs.Refusal.{First, NoneHolds, firstOf, whenDone, widthRefusal, outRefusal}
+use Rattle.sheet_definition.specs.Sheet.{World, markWords, q, buildRounds}
+use Rattle.sheet_definition.specs.Refusals.{lengthsOf, sheetRefusal, marksRefusal, buildRefusals}
+use Rattle.sheet_definition.specs.Marks.{Worked, markAt, stateFrom, markOf, worked, stateAfter, TrueMark}
+use Rattle.sheet_definition.specs.Save.{SheetOutcome, refusedWith, doneWith}
+use Rattle.sheet_definition.specs.SheetCalls.{buildOutcome}
+use Rattle.sheet_definition.specs.Run.{left}
+use Rattle.sheet_definition.specs.Said.{Written, Untouched, Rounds}
+use Rattle.definition.proofs.Buffer.{length-overwriteAt, drop-overwriteAt}
 use Rattle.definition.proofs.Chain.{length-start}
 use Rattle.sheet_definition.proofs.Sheet.{build-from-start}
 use Rattle.sheet_definition.proofs.Marks.{length-mark, state-of-mark, rounds-from-mark}
 use Rattle.sheet_definition.proofs.Writes.{marks-kept, Rewritten, rewritten, length-digest}
-use Rattle.sheet_definition.proofs.Outcomes.{Rounds, by-number, rounds-of, Fits, fits}
-use Rattle.sheet_definition.proofs.Saves.{Written, Made, work-over}
-
--- mark 0 as a build writes it
-abbrev begun : (code : ℕ) → List ℕ → List ℕ
-begun code marks = overwrite (markOf (start (widthAt code))) marks
-
-begun-mark : (code : ℕ) (marks : List ℕ) → markAt (begun code marks) 0 ≡ markOf (start (widthAt code))
-unfolding markAt overwrite
-begun-mark code marks =
-    let m : List ℕ = markOf (start (widthAt code)) in
-    take-at m (drop (length m) marks) 40 (length-mark (start (widthAt code)))
-
-begun-true : (code : ℕ) (sheet marks : List ℕ) → TrueMark code sheet (begun code marks) 0
-unfolding TrueMark chain blocks blocksTo
-begun-true code sheet marks =
-    let w : Width = widthAt code in
-    ap (stateFrom w) (begun-mark code marks) ∙ state-of-mark w (start w) (length-start w)
+use Rattle.sheet_definition.proofs.Refused.{Fits, built-fits}
+use Rattle.sheet_definition.proofs.Fair.{read-written}
+use Rattle.sheet_definition.proofs.Saves.{Made, work-over}
 
 module _ (code : ℕ) (sheet : List ℕ) (n : ℕ) (marks out : List ℕ) where
+  abbrev found : World
+  found = record { code = code; n = n; sheet = sheet; marks = marks }
+
+  -- mark 0 as a build writes it, and the work from it
+  abbrev first : List ℕ
+  first = markOf (start (widthAt code))
+
+  abbrev begun : List ℕ
+  begun = overwrite first marks
+
   abbrev work : Worked
-  work = worked code n sheet (begun code marks) 0
+  work = worked code n sheet begun 0
 
-  -- the arguments of an accepted build are valid
-  abbrev Fitting : Type 0
-  Fitting = Fits code (length sheet) n (length marks) (length out)
+  abbrev outcome : SheetOutcome
+  outcome = buildOutcome code sheet n marks out
 
-  length-begun : Fitting → length (begun code marks) ≡ length marks
-  length-begun f = length-overwrite (markOf (start (widthAt code))) marks (omega (arith, length-mark (start (widthAt code))))
+  begun-mark : markAt begun 0 ≡ first
+  unfolding markAt
+  begun-mark = read-written 0 markWords first marks (length-mark (start (widthAt code))) (omega arith)
 
-  by-build : (P : SheetOutcome → Type 0) → (Fitting → P (acceptedWith n 0 sheet work out))
-      → ((k : ℕ) → P (refusedWith (suc k) n 0 sheet marks out)) → P (buildOutcome code sheet n marks out)
-  unfolding buildOutcome buildRefusals
-  by-build P a b = by-number _ n 0 sheet marks out (acceptedWith n 0 sheet work out) P (λ e. a (fits code _ n _ _ [] e .0)) (λ k e. b k)
+  begun-true : TrueMark code sheet begun 0
+  unfolding TrueMark stateAfter chain blocks blocksTo
+  begun-true =
+      let w : Width = widthAt code in
+      ap (stateFrom w) begun-mark ∙ state-of-mark w (start w) (length-start w)
 
-  pub build-fits : buildOutcome code sheet n marks out .answer .number ≡ 0 → Fitting
-  unfolding refusedWith
-  build-fits = by-build (λ o. o .answer .number ≡ 0 → Fitting) (λ f e. f) (λ k e. absurd (omega arith))
+  length-begun : Fits found out → length begun ≡ length marks
+  length-begun f = length-overwriteAt 0 first marks (omega (arith, length-mark (start (widthAt code)), f .marks-room))
 
-  -- true marks, and the digest
-  pub build-made : buildOutcome code sheet n marks out .answer .number ≡ 0 → Made code 0 out (buildOutcome code sheet n marks out)
-  unfolding acceptedWith refusedWith
-  build-made = by-build (λ o. o .answer .number ≡ 0 → Made code 0 out o) (λ f e. accepted f) (λ k e. absurd (omega arith))
+  -- the number is that of the first refusal, refused or done
+  pub build-refused : {k : ℕ} → k ≡ firstOf (buildRefusals (lengthsOf found out)) → (k ≡ 0 → ⊥) → refusedWith found out k 0 ≡ outcome
+  unfolding buildOutcome whenDone
+  build-refused {k = zero} e h = absurd (h refl)
+  build-refused {k = suc k} e h = rw (← e)
+
+  pub build-done : {k : ℕ} → k ≡ firstOf (buildRefusals (lengthsOf found out)) → k ≡ 0 → doneWith n sheet work 0 out ≡ outcome
+  unfolding buildOutcome whenDone
+  build-done e z = rw (sym e ∙ z)
+
+  -- so what holds of both holds of the outcome; the arguments of an accepted build are valid
+  by-build : (P : SheetOutcome → Type 0) → (firstOf (buildRefusals (lengthsOf found out)) ≡ 0 → Fits found out → P (doneWith n sheet work 0 out))
+      → ((k : ℕ) → firstOf (buildRefusals (lengthsOf found out)) ≡ suc k → P (refusedWith found out (suc k) 0)) → P outcome
+  unfolding buildRefusals
+  by-build P a b = go (firstOf (buildRefusals (lengthsOf found out))) refl
     where
-      zero-true : (k : ℕ) → k ≤ 0 → TrueMark code sheet (begun code marks) k
-      zero-true zero h = begun-true code sheet marks
+      go : (k : ℕ) → firstOf (buildRefusals (lengthsOf found out)) ≡ k → P outcome
+      go zero e = rw (← build-done (sym e) refl) (a e (built-fits found out e))
+      go (suc k) e = rw (← build-refused (sym e) (λ z. absurd (omega arith))) (b k e)
+
+  pub build-number : outcome .answer .number ≡ firstOf (buildRefusals (lengthsOf found out))
+  unfolding refusedWith doneWith
+  build-number = by-build (λ o. o .answer .number ≡ firstOf (buildRefusals (lengthsOf found out))) (λ e f. sym e) (λ k e. sym e)
+
+  pub build-fits : outcome .answer .number ≡ 0 → Fits found out
+  unfolding refusedWith
+  build-fits = by-build (λ o. o .answer .number ≡ 0 → Fits found out) (λ z f e. f) (λ k z e. absurd (omega arith))
+
+  -- a refused build alters nothing
+  pub build-untouched : (outcome .answer .number ≡ 0 → ⊥) → Untouched found out outcome
+  unfolding refusedWith doneWith
+  build-untouched = by-build (λ o. (o .answer .number ≡ 0 → ⊥) → Untouched found out o) (λ z f h. absurd (h refl)) (λ k z h. search)
+
+  -- whatever the marks were, an accepted build leaves those of the sheet as they are written, and Luffa of the sheet
+  pub build-made : outcome .answer .number ≡ 0 → Made code 0 out outcome
+  unfolding refusedWith doneWith left
+  build-made = by-build (λ o. o .answer .number ≡ 0 → Made code 0 out o) (λ z f e. made f) (λ k z e. absurd (omega arith))
+    where
+      zero-true : (k : ℕ) → k ≤ 0 → TrueMark code sheet begun k
+      zero-true zero h = begun-true
       zero-true (suc k) h = absurd (omega arith)
 
-      first : Fitting → markAt (work .marks) 0 ≡ markOf (start (widthAt code))
-      first f =
-          marks-kept 0 0 (work .marks) (begun code marks)
-          (rewritten code n 0 sheet (begun code marks) (omega arith) (omega (arith, length-begun f)) .front) (omega arith)
-          ∙ begun-mark code marks
+      first-written : Fits found out → markAt (work .marks) 0 ≡ first
+      first-written f =
+          marks-kept 0 0 (work .marks) begun
+          (rewritten code n 0 sheet begun (omega arith) (omega (arith, length-begun f, f .marks-room)) .front) (omega arith)
+          ∙ begun-mark
 
-      accepted : Fitting → Made code 0 out (acceptedWith n 0 sheet work out)
-      accepted f =
-          let b : length (begun code marks) ≡ length marks = length-begun f in
+      made : Fits found out → Made code 0 out (doneWith n sheet work 0 out)
+      made f =
           let m =
-          work-over code n 0 sheet sheet (begun code marks) (begun code marks) refl (λ k h. refl) zero-true (omega arith) (f .sheet-room) (omega arith)
+          work-over code n 0 sheet sheet begun begun refl (λ k h. refl) zero-true (omega arith) (f .sheet-room) (omega (arith, length-begun f, f .marks-room))
           in
-          record { marks-true = m .0; written = from-first f (m .1); digest = ap (λ (d : List ℕ). overwrite d out) (m .2) }
+          record { marks-true = m .0; written = from-first (m .1); digest = ap (λ (d : List ℕ). overwrite d out) (m .2) }
         where
-          from-first : Fitting → Written code n 1 sheet (work .marks) → Written code n 0 sheet (work .marks)
-          from-first f w zero h i = unfold chain blocks blocksTo in first f
-          from-first f w (suc k) h i = w (suc k) (omega arith) i
+          from-first : Written (left code (doneWith n sheet work 0 out)) 1 → Written (left code (doneWith n sheet work 0 out)) 0
+          from-first w zero h i = unfold stateAfter chain blocks blocksTo in first-written f
+          from-first w (suc k) h i = w (suc k) (omega arith) i
 
   -- whatever the answer, the sheet, the lengths and the words after its marks are as they were
-  pub record BuildKept (o : SheetOutcome) : Type 0 where
-    pub count-kept : o .answer .count ≡ n
-    pub sheet-kept : o .sheet ≡ sheet
+  pub record BuildStays (o : SheetOutcome) : Type 0 where
+    pub count-same : o .answer .count ≡ n
+    pub sheet-same : o .sheet ≡ sheet
     pub marks-size : length (o .marks) ≡ length marks
     pub out-size : length (o .out) ≡ length out
-    pub marks-back : (e : ℕ) → q n ≤ e → drop (40 * (e + 1)) (o .marks) ≡ drop (40 * (e + 1)) marks
+    pub marks-behind : (m : ℕ) → q n ≤ m → drop (markWords * (m + 1)) (o .marks) ≡ drop (markWords * (m + 1)) marks
 
-  pub build-kept : BuildKept (buildOutcome code sheet n marks out)
-  unfolding acceptedWith refusedWith
-  build-kept = by-build BuildKept accepted (λ k. search)
+  pub build-stays : BuildStays outcome
+  unfolding doneWith refusedWith
+  build-stays = by-build BuildStays (λ z. kept) (λ k z. search)
     where
-      m : List ℕ
-      m = markOf (start (widthAt code))
-
-      accepted : Fitting → BuildKept (acceptedWith n 0 sheet work out)
-      accepted f =
-          let b : length (begun code marks) ≡ length marks = length-begun f in
-          let a : Rewritten n 0 (work .marks) (begun code marks) = rewritten code n 0 sheet (begun code marks) (omega arith) (omega arith) in
+      kept : Fits found out → BuildStays (doneWith n sheet work 0 out)
+      kept f =
+          let b : length begun ≡ length marks = length-begun f in
+          let a : Rewritten n 0 (work .marks) begun = rewritten code n 0 sheet begun (omega arith) (omega (arith, f .marks-room)) in
           record {
-            count-kept = refl;
-            sheet-kept = refl;
+            count-same = refl;
+            sheet-same = refl;
             marks-size = a .size ∙ b;
-            out-size = length-overwrite (work .digest) out (omega (arith, length-digest code n 0 sheet (begun code marks)));
-            marks-back = λ e h. a .back e h ∙ ap (drop (40 * (e + 1))) (sym (overwrite-front m marks))
-                ∙ drop-overwriteAt 0 (40 * (e + 1)) m marks (omega (arith, length-mark (start (widthAt code)))) (omega arith);
+            out-size = length-overwriteAt 0 (work .digest) out (omega (arith, length-digest code n 0 sheet begun, f .out-room));
+            marks-behind = λ m h. a .back m h ∙ drop-overwriteAt 0 (markWords * (m + 1)) first marks (omega (arith, length-mark (start (widthAt code)))) (omega arith);
           }
 
-  pub build-rounds : Rounds (buildOutcome code sheet n marks out .answer) (buildRounds code n) 0
-  unfolding buildOutcome buildRefusals acceptedWith
+  pub build-rounds : Rounds (outcome .answer) (buildRounds code n) 0
+  unfolding refusedWith doneWith
   build-rounds =
-      rounds-of _ n 0 sheet marks out (acceptedWith n 0 sheet work out) (buildRounds code n) 0 refl
-      (λ e. zero-add (work .rounds)
-      ∙ rounds-from-mark code n 0 sheet (begun code marks) (omega arith) (fits code _ n _ _ [] e .0 .sheet-room)
-      ∙ sym (build-from-start code n))
-      (λ e. refl)
+      by-build (λ o. Rounds (o .answer) (buildRounds code n) 0)
+      (λ z f. record {
+        when-done = λ e. zero-add (work .rounds) ∙ rounds-from-mark code n 0 sheet begun (omega arith) (f .sheet-room) ∙ sym (build-from-start code n);
+        when-stale = λ e. absurd (omega arith);
+        none = λ h i. absurd (h refl);
+      })
+      (λ k z. record { when-done = λ e. absurd (omega arith); when-stale = λ e. refl; none = λ h i. refl })

@@ -8,15 +8,12 @@ use native.Mathlib.Omega.{arith}
 use lib.ListN.{length, take, drop, set, length-append, length-drop, take-append-drop}
 use lib.Seq.{length-take-le, take-nil, take-at, drop-at, take-append-le, drop-append-le, take-append-add, drop-append-add, take-add}
 use Rattle.definition.specs.Buffer.{overwriteAt, joined}
+use Rattle.sheet_definition.specs.Sheet.{recordBytes}
 use Rattle.sheet_definition.specs.Run.{cut}
+use Rattle.sheet_definition.specs.Said.{Forty}
 use Rattle.definition.proofs.Buffer.{length-overwriteAt}
-use Rattle.definition.proofs.Every.{Every}
 
--- each is of 40 bytes
-abbrev pub Forty : List (List ℕ) → Type 0
-Forty = Every (λ x. length x ≡ 40)
-
-length-joined : (rs : List (List ℕ)) → Forty rs → length (joined rs) ≡ 40 * length rs
+length-joined : (rs : List (List ℕ)) → Forty rs → length (joined rs) ≡ recordBytes * length rs
 unfolding joined
 length-joined [] f = refl
 length-joined (x ∷ rs) f = omega (arith, length-append x (joined rs), length-joined rs (f .1))
@@ -26,13 +23,13 @@ unfolding joined
 joined-append [] ts = refl
 joined-append (x ∷ rs) ts = rw (joined-append rs ts, append-assoc x (joined rs) (joined ts))
 
-pub joined-take : (rs : List (List ℕ)) (k : ℕ) → Forty rs → joined (take k rs) ≡ take (40 * k) (joined rs)
+pub joined-take : (rs : List (List ℕ)) (k : ℕ) → Forty rs → joined (take k rs) ≡ take (recordBytes * k) (joined rs)
 unfolding joined
 joined-take rs zero f = refl
-joined-take [] (suc k) f = sym (take-nil (40 * suc k))
+joined-take [] (suc k) f = sym (take-nil (recordBytes * suc k))
 joined-take (x ∷ rs) (suc k) f =
-    let e : 40 * suc k ≡ length x + 40 * k = omega arith in
-    rw (joined-take rs k (f .1), e, take-append-add x (joined rs) (40 * k))
+    let e : recordBytes * suc k ≡ length x + recordBytes * k = omega arith in
+    rw (joined-take rs k (f .1), e, take-append-add x (joined rs) (recordBytes * k))
 
 -- a piece written behind the front of a list
 overwrite-behind : (y : List ℕ) (i : ℕ) (p l : List ℕ) → overwriteAt (length y + i) p (y ++ l) ≡ y ++ overwriteAt i p l
@@ -41,14 +38,14 @@ overwrite-behind y i p l =
     rw (take-append-add y l i, add-assoc (length y) i (length p), drop-append-add y l (i + length p))
     (simp append-assoc)
 
-pub joined-set : (rs : List (List ℕ)) (p : ℕ) (x : List ℕ) → length x ≡ 40 → Forty rs → p < length rs
-    → joined (set rs p x) ≡ overwriteAt (40 * p) x (joined rs)
+pub joined-set : (rs : List (List ℕ)) (p : ℕ) (x : List ℕ) → length x ≡ recordBytes → Forty rs → p < length rs
+    → joined (set rs p x) ≡ overwriteAt (recordBytes * p) x (joined rs)
 unfolding joined overwriteAt
 joined-set [] p x e f h = absurd (omega arith)
 joined-set (y ∷ rs) zero x e f h = rw (drop-at y (joined rs) (0 + length x) (omega arith))
 joined-set (y ∷ rs) (suc p) x e f h =
-    let j : 40 * suc p ≡ length y + 40 * p = omega arith in
-    rw (joined-set rs p x e (f .1) (omega arith), j) (sym (overwrite-behind y (40 * p) x (joined rs)))
+    let j : recordBytes * suc p ≡ length y + recordBytes * p = omega arith in
+    rw (joined-set rs p x e (f .1) (omega arith), j) (sym (overwrite-behind y (recordBytes * p) x (joined rs)))
 
 -- a piece written into the front of a list
 overwrite-append : (i : ℕ) (p l r : List ℕ) → i + length p ≤ length l → overwriteAt i p (l ++ r) ≡ overwriteAt i p l ++ r
@@ -73,16 +70,16 @@ take-added i j p l e n =
 pub length-cut : (n : ℕ) (l : List ℕ) → length (cut n l) ≡ n
 unfolding cut
 length-cut zero l = refl
-length-cut (suc n) l = ap suc (length-cut n (drop 40 l))
+length-cut (suc n) l = ap suc (length-cut n (drop recordBytes l))
 
-pub forty-cut : (n : ℕ) (l : List ℕ) → 40 * n ≤ length l → Forty (cut n l)
+pub forty-cut : (n : ℕ) (l : List ℕ) → recordBytes * n ≤ length l → Forty (cut n l)
 unfolding cut
 forty-cut zero l h = tt
-forty-cut (suc n) l h = (length-take-le 40 l (omega arith), forty-cut n (drop 40 l) (omega (arith, length-drop 40 l)))
+forty-cut (suc n) l h = (length-take-le recordBytes l (omega arith), forty-cut n (drop recordBytes l) (omega (arith, length-drop recordBytes l)))
 
-pub joined-cut : (n : ℕ) (l : List ℕ) → joined (cut n l) ≡ take (40 * n) l
+pub joined-cut : (n : ℕ) (l : List ℕ) → joined (cut n l) ≡ take (recordBytes * n) l
 unfolding cut joined
 joined-cut zero l = refl
 joined-cut (suc n) l =
-    let e : 40 * suc n ≡ 40 + 40 * n = omega arith in
-    rw (joined-cut n (drop 40 l), e, take-add 40 (40 * n) l)
+    let e : recordBytes * suc n ≡ recordBytes + recordBytes * n = omega arith in
+    rw (joined-cut n (drop recordBytes l), e, take-add recordBytes (recordBytes * n) l)

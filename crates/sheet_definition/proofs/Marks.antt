@@ -18,9 +18,9 @@ use Rattle.definition.specs.Padding.{closing, padding, padded, blocksTo, blocks
 use Rattle.definition.specs.Start.{blockCount, start}
 use Rattle.definition.specs.State.{five, blocksIn, stateOf}
 use Rattle.definition.specs.Buffer.{overwriteAt}
-use Rattle.definition.specs.Luffa.{widthAt, absorbed, luffa}
-use Rattle.sheet_definition.specs.Sheet.{q, N, F, roundsFrom}
-use Rattle.sheet_definition.specs.Marks.{held, markAt, blockFrom, stateFrom, markOf, marksAfter, digestAfter, roundsAfter, worked, TrueMark, TrueMarks}
+use Rattle.definition.specs.Luffa.{widthAt, digestAfter, luffa}
+use Rattle.sheet_definition.specs.Sheet.{World, recordBytes, groupBytes, markWords, q, N, F, roundsFrom}
+use Rattle.sheet_definition.specs.Marks.{held, markAt, blockFrom, stateFrom, markOf, marksAfter, roundsAfter, worked, stateAfter, TrueMark, TrueMarks}
 use Rattle.definition.proofs.Chain.{chain-append, blocks-of-state, length-chain, length-start}
 use Rattle.definition.proofs.Padding.{blocks-append, length-padding}
 use Rattle.sheet_definition.proofs.Writes.{marks-kept, rewritten}
@@ -33,23 +33,23 @@ padded-append n last y x e =
     rw m (append-assoc y x _)
 
 -- whole blocks of a string, and then blocks of what follows them
-chain-parts : (w : Width) (h : List Block) (k n : ℕ) (x : List ℕ) → 160 * k ≤ length x
-    → chain w (chain w h (blocks (take (160 * k) x))) (blocks (take n (drop (160 * k) x))) ≡ chain w h (blocks (take (160 * k + n) x))
+chain-parts : (w : Width) (h : List Block) (k n : ℕ) (x : List ℕ) → groupBytes * k ≤ length x
+    → chain w (chain w h (blocks (take (groupBytes * k) x))) (blocks (take n (drop (groupBytes * k) x))) ≡ chain w h (blocks (take (groupBytes * k + n) x))
 chain-parts w h k n x l =
-    let e : length (take (160 * k) x) ≡ 5 * k * 32 = length-take-le (160 * k) x l ∙ omega arith in
-    rw (take-add (160 * k) n x, blocks-append (5 * k) (take (160 * k) x) (take n (drop (160 * k) x)) e, chain-append)
+    let e : length (take (groupBytes * k) x) ≡ 5 * k * 32 = length-take-le (groupBytes * k) x l ∙ omega arith in
+    rw (take-add (groupBytes * k) n x, blocks-append (5 * k) (take (groupBytes * k) x) (take n (drop (groupBytes * k) x)) e, chain-append)
 
 -- the digest worked from a true mark is Luffa of the whole sheet
-pub digest-from-mark : (code n m : ℕ) (sheet marks : List ℕ) → TrueMark code sheet marks m → m ≤ q n → 40 * n ≤ length sheet
+pub digest-from-mark : (code n m : ℕ) (sheet marks : List ℕ) → TrueMark code sheet marks m → m ≤ q n → recordBytes * n ≤ length sheet
     → worked code n sheet marks m .digest ≡ luffa code (held n sheet)
-unfolding worked digestAfter luffa absorbed TrueMark held q
+unfolding worked digestAfter luffa TrueMark stateAfter held q
 digest-from-mark code n m sheet marks t h l =
-    let y : List ℕ = take (160 * m) sheet in
-    let x : List ℕ = drop (160 * m) (take (40 * n) sheet) in
-    let e : length y ≡ 5 * m * 32 = length-take-le (160 * m) sheet (omega arith) ∙ omega arith in
-    let s : take (40 * n) sheet ≡ y ++ x =
-    rw (take-take (160 * m) (40 * n) sheet (omega arith)) at (sym (take-append-drop (160 * m) (take (40 * n) sheet))) in
-    let b : blocks (padded closing (take (40 * n) sheet)) ≡ blocks y ++ blocks (padded closing x) =
+    let y : List ℕ = take (groupBytes * m) sheet in
+    let x : List ℕ = drop (groupBytes * m) (take (recordBytes * n) sheet) in
+    let e : length y ≡ 5 * m * 32 = length-take-le (groupBytes * m) sheet (omega arith) ∙ omega arith in
+    let s : take (recordBytes * n) sheet ≡ y ++ x =
+    rw (take-take (groupBytes * m) (recordBytes * n) sheet (omega arith)) at (sym (take-append-drop (groupBytes * m) (take (recordBytes * n) sheet))) in
+    let b : blocks (padded closing (take (recordBytes * n) sheet)) ≡ blocks y ++ blocks (padded closing x) =
     ap (λ (z : List ℕ). blocks (padded closing z)) s ∙ rw (padded-append (5 * m) closing y x e, blocks-append (5 * m) y (padded closing x) e) in
     rw (t, b, chain-append)
 
@@ -66,16 +66,16 @@ padded-blocks last x =
     omega (arith, length-blocksTo (length (x ++ p) / 32) (x ++ p), length-append x p, length-padding last (length x))
 
 -- the rounds worked from mark m are document 01's
-pub rounds-from-mark : (code n m : ℕ) (sheet marks : List ℕ) → m ≤ q n → 40 * n ≤ length sheet
+pub rounds-from-mark : (code n m : ℕ) (sheet marks : List ℕ) → m ≤ q n → recordBytes * n ≤ length sheet
     → worked code n sheet marks m .rounds ≡ roundsFrom code n m
 unfolding worked roundsAfter roundsFrom held q N F
 rounds-from-mark code n m sheet marks h l =
-    let x : List ℕ = drop (160 * m) (take (40 * n) sheet) in
+    let x : List ℕ = drop (groupBytes * m) (take (recordBytes * n) sheet) in
     omega (
       arith,
       padded-blocks closing x,
-      length-drop (160 * m) (take (40 * n) sheet),
-      length-take-le (40 * n) sheet l,
+      length-drop (groupBytes * m) (take (recordBytes * n) sheet),
+      length-take-le (recordBytes * n) sheet l,
     )
 
 -- five blocks as words, read again
@@ -90,69 +90,80 @@ pub state-of-mark : (w : Width) (h : List Block) → length h ≡ blockCount w �
 unfolding markOf
 state-of-mark w h e = read w (stateOf h) ∙ blocks-of-state w h e
 
-pub length-mark : (h : List Block) → length (markOf h) ≡ 40
+pub length-mark : (h : List Block) → length (markOf h) ≡ markWords
 unfolding markOf wordsOfAll five wordsOf
 length-mark h = refl
 
 -- a mark after the place that was written from is what was written there
-mark-after : (m j : ℕ) (p l : List ℕ) → 40 * (m + 1) ≤ length l
-    → markAt (overwriteAt (40 * (m + 1)) p l) (m + 1 + j) ≡ markAt (p ++ drop (40 * (m + 1) + length p) l) j
+mark-after : (m j : ℕ) (p l : List ℕ) → markWords * (m + 1) ≤ length l
+    → markAt (overwriteAt (markWords * (m + 1)) p l) (m + 1 + j) ≡ markAt (p ++ drop (markWords * (m + 1) + length p) l) j
 unfolding markAt overwriteAt
 mark-after m j p l h =
-    let i : ℕ = 40 * (m + 1) in
-    let e : 40 * (m + 1 + j) ≡ length (take i l) + 40 * j = omega (arith, length-take-le i l h) in
-    rw (e, append-assoc (take i l) p (drop (i + length p) l), drop-append-add (take i l) (p ++ drop (i + length p) l) (40 * j))
+    let i : ℕ = markWords * (m + 1) in
+    let e : markWords * (m + 1 + j) ≡ length (take i l) + markWords * j = omega (arith, length-take-le i l h) in
+    rw (e, append-assoc (take i l) p (drop (i + length p) l), drop-append-add (take i l) (p ++ drop (i + length p) l) (markWords * j))
 
 -- the marks written on the way hold the states after each group
-marks-hold : (w : Width) (k j : ℕ) (h : List Block) (x r : List ℕ) → j < k → 160 * k ≤ length x
-    → markAt (marksAfter w k h x ++ r) j ≡ markOf (chain w h (blocks (take (160 * (j + 1)) x)))
+marks-hold : (w : Width) (k j : ℕ) (h : List Block) (x r : List ℕ) → j < k → groupBytes * k ≤ length x
+    → markAt (marksAfter w k h x ++ r) j ≡ markOf (chain w h (blocks (take (groupBytes * (j + 1)) x)))
 unfolding marksAfter markAt
 marks-hold w zero j h x r e l = absurd (omega arith)
 marks-hold w (suc k) zero h x r e l =
-    let h' : List Block = chain w h (blocks (take 160 x)) in
-    rw (append-assoc (markOf h') (marksAfter w k h' (drop 160 x)) r) (take-at (markOf h') _ 40 (length-mark h'))
+    let h' : List Block = chain w h (blocks (take groupBytes x)) in
+    rw (append-assoc (markOf h') (marksAfter w k h' (drop groupBytes x)) r) (take-at (markOf h') _ markWords (length-mark h'))
 marks-hold w (suc k) (suc j) h x r e l =
-    let h' : List Block = chain w h (blocks (take 160 x)) in
-    let ws : List ℕ = marksAfter w k h' (drop 160 x) in
-    let d : 40 * suc j ≡ length (markOf h') + 40 * j = omega (arith, length-mark h') in
-    let f : 160 * (suc j + 1) ≡ 160 + 160 * (j + 1) = omega arith in
-    rw (append-assoc (markOf h') ws r, d, drop-append-add (markOf h') (ws ++ r) (40 * j), f, ← chain-parts w h 1 (160 * (j + 1)) x (omega arith))
-    (marks-hold w k j h' (drop 160 x) r (omega arith) (omega (arith, length-drop 160 x)))
+    let h' : List Block = chain w h (blocks (take groupBytes x)) in
+    let ws : List ℕ = marksAfter w k h' (drop groupBytes x) in
+    let d : markWords * suc j ≡ length (markOf h') + markWords * j = omega (arith, length-mark h') in
+    let f : groupBytes * (suc j + 1) ≡ groupBytes + groupBytes * (j + 1) = omega arith in
+    rw (append-assoc (markOf h') ws r, d, drop-append-add (markOf h') (ws ++ r) (markWords * j), f, ← chain-parts w h 1 (groupBytes * (j + 1)) x (omega arith))
+    (marks-hold w k j h' (drop groupBytes x) r (omega arith) (omega (arith, length-drop groupBytes x)))
 
--- work from a true mark writes the state after each later group, unused blocks zero
-pub mark-written : (code n m k : ℕ) (sheet marks : List ℕ) → TrueMark code sheet marks m → m < k → k ≤ q n → 40 * n ≤ length sheet
-    → 40 * (q n + 1) ≤ length marks
-    → markAt (worked code n sheet marks m .marks) k ≡ markOf (chain (widthAt code) (start (widthAt code)) (blocks (take (160 * k) sheet)))
-unfolding TrueMark worked held q
-mark-written code n m k sheet marks t h e l r =
+-- work from a mark, true or false, writes the states after each later group from the state that it holds
+pub mark-worked : (code n m k : ℕ) (sheet marks : List ℕ) → m < k → k ≤ q n → recordBytes * n ≤ length sheet → markWords * (q n + 1) ≤ length marks
+    → markAt (worked code n sheet marks m .marks) k
+    ≡ markOf (chain (widthAt code) (stateFrom (widthAt code) (markAt marks m)) (blocks (take (groupBytes * (k - m)) (drop (groupBytes * m) (held n sheet)))))
+unfolding worked held q
+mark-worked code n m k sheet marks h e l r =
     let w : Width = widthAt code in
     let j : ℕ = k - m - 1 in
-    let x : List ℕ = take (40 * n) sheet in
+    let x : List ℕ = take (recordBytes * n) sheet in
     let s : List Block = stateFrom w (markAt marks m) in
     let a : k ≡ m + 1 + j = omega arith in
-    let b : 160 * m + 160 * (j + 1) ≡ 160 * k = omega arith in
-    let n' : length x ≡ 40 * n = length-take-le (40 * n) sheet l in
+    let b : groupBytes * (j + 1) ≡ groupBytes * (k - m) = omega arith in
     ap (markAt _) a
-    ∙ mark-after m j (marksAfter w (n / 4 - m) s (drop (160 * m) x)) marks (omega arith)
-    ∙ marks-hold w (n / 4 - m) j s (drop (160 * m) x) _ (omega arith) (omega (arith, length-drop (160 * m) x))
+    ∙ mark-after m j (marksAfter w (n / 4 - m) s (drop (groupBytes * m) x)) marks (omega arith)
+    ∙ marks-hold w (n / 4 - m) j s (drop (groupBytes * m) x) _ (omega arith) (omega (arith, length-drop (groupBytes * m) x, length-take-le (recordBytes * n) sheet l))
+    ∙ rw b
+
+-- from a true one, the state after each later group of the sheet, unused blocks zero
+pub mark-written : (code n m k : ℕ) (sheet marks : List ℕ) → TrueMark code sheet marks m → m < k → k ≤ q n → recordBytes * n ≤ length sheet
+    → markWords * (q n + 1) ≤ length marks
+    → markAt (worked code n sheet marks m .marks) k ≡ markOf (stateAfter code sheet k)
+unfolding TrueMark stateAfter held q
+mark-written code n m k sheet marks t h e l r =
+    let w : Width = widthAt code in
+    let x : List ℕ = take (recordBytes * n) sheet in
+    let b : groupBytes * m + groupBytes * (k - m) ≡ groupBytes * k = omega arith in
+    mark-worked code n m k sheet marks h e l r
     ∙ ap markOf
     (rw (
       t,
-      ← take-take (160 * m) (40 * n) sheet (omega arith),
-      chain-parts w (start w) m (160 * (j + 1)) x (omega arith),
+      ← take-take (groupBytes * m) (recordBytes * n) sheet (omega arith),
+      chain-parts w (start w) m (groupBytes * (k - m)) x (omega (arith, length-take-le (recordBytes * n) sheet l)),
       b,
-      take-take (160 * k) (40 * n) sheet (omega arith),
+      take-take (groupBytes * k) (recordBytes * n) sheet (omega arith),
     ))
 
 -- after work from a mark, with the marks up to it true, all marks of the sheet are true
 pub marks-after-work : (code n m : ℕ) (sheet marks : List ℕ)
     → ((k : ℕ) → k ≤ m → TrueMark code sheet marks k)
-    → m ≤ q n → 40 * n ≤ length sheet → 40 * (q n + 1) ≤ length marks
-    → TrueMarks code n sheet (worked code n sheet marks m .marks)
-unfolding TrueMarks TrueMark
+    → m ≤ q n → recordBytes * n ≤ length sheet → markWords * (q n + 1) ≤ length marks
+    → TrueMarks (record { code = code; n = n; sheet = sheet; marks = worked code n sheet marks m .marks })
+unfolding TrueMarks TrueMark stateAfter
 marks-after-work code n m sheet marks t h l r k e =
     let w : Width = widthAt code in
-    let b : List Block = blocks (take (160 * k) sheet) in
+    let b : List Block = blocks (take (groupBytes * k) sheet) in
     elim (decLe k m) [
       | yes d ↦ ap (stateFrom w) (marks-kept m k _ marks (rewritten code n m sheet marks h r .front) d) ∙ t k d
       | no d ↦ ap (stateFrom w) (mark-written code n m k sheet marks (t m (le-refl m)) (omega arith) e l r)

@@ -15,10 +15,10 @@ use Rattle.definition.specs.Block.{wordsOf, wordsOfAll}
 use Rattle.definition.specs.State.{five}
 use Rattle.definition.specs.Round.{chain}
 use Rattle.definition.specs.Padding.{blocks}
-use Rattle.definition.specs.Luffa.{widthAt, bytesAt}
+use Rattle.definition.specs.Luffa.{widthAt, bytesAt, digestAfter}
 use Rattle.definition.specs.Buffer.{overwriteAt, same}
-use Rattle.sheet_definition.specs.Sheet.{q}
-use Rattle.sheet_definition.specs.Marks.{held, markAt, stateFrom, markOf, marksAfter, digestAfter, worked}
+use Rattle.sheet_definition.specs.Sheet.{groupBytes, markWords, q}
+use Rattle.sheet_definition.specs.Marks.{held, markAt, stateFrom, markOf, marksAfter, worked}
 use Rattle.definition.proofs.Cases.{same→eq}
 use Rattle.definition.proofs.Word.{length-bytes}
 use Rattle.definition.proofs.Buffer.{length-overwriteAt, take-overwriteAt, drop-overwriteAt}
@@ -45,38 +45,38 @@ drop-take zero n l = rw zero-add
 drop-take (suc d) n [] = rw (suc-add, take-nil)
 drop-take (suc d) n (a ∷ l) = rw suc-add (drop-take d n l)
 
-mark-in-front : (m k : ℕ) (l : List ℕ) → k ≤ m → drop (40 * k) (take (40 * k + 40) (take (40 * (m + 1)) l)) ≡ markAt l k
+mark-in-front : (m k : ℕ) (l : List ℕ) → k ≤ m → drop (markWords * k) (take (markWords * k + markWords) (take (markWords * (m + 1)) l)) ≡ markAt l k
 unfolding markAt
-mark-in-front m k l h = rw (take-take (40 * k + 40) (40 * (m + 1)) l (omega arith)) (drop-take (40 * k) 40 l)
+mark-in-front m k l h = rw (take-take (markWords * k + markWords) (markWords * (m + 1)) l (omega arith)) (drop-take (markWords * k) markWords l)
 
 -- marks 0 to m are as they were where the words up to them are
-pub marks-kept : (m k : ℕ) (l' l : List ℕ) → take (40 * (m + 1)) l' ≡ take (40 * (m + 1)) l → k ≤ m → markAt l' k ≡ markAt l k
+pub marks-kept : (m k : ℕ) (l' l : List ℕ) → take (markWords * (m + 1)) l' ≡ take (markWords * (m + 1)) l → k ≤ m → markAt l' k ≡ markAt l k
 marks-kept m k l' l e h =
-    sym (mark-in-front m k l' h) ∙ ap (λ (z : List ℕ). drop (40 * k) (take (40 * k + 40) z)) e ∙ mark-in-front m k l h
+    sym (mark-in-front m k l' h) ∙ ap (λ (z : List ℕ). drop (markWords * k) (take (markWords * k + markWords) z)) e ∙ mark-in-front m k l h
 
-length-marksAfter : (w : Width) (k : ℕ) (h : List Block) (x : List ℕ) → length (marksAfter w k h x) ≡ 40 * k
+length-marksAfter : (w : Width) (k : ℕ) (h : List Block) (x : List ℕ) → length (marksAfter w k h x) ≡ markWords * k
 unfolding marksAfter markOf wordsOfAll wordsOf five
 length-marksAfter w zero h x = refl
-length-marksAfter w (suc k) h x = omega (arith, length-marksAfter w k (chain w h (blocks (take 160 x))) (drop 160 x))
+length-marksAfter w (suc k) h x = omega (arith, length-marksAfter w k (chain w h (blocks (take groupBytes x))) (drop groupBytes x))
 
 -- the work from mark m writes the marks after it and no others
 pub record Rewritten (n m : ℕ) (marks' marks : List ℕ) : Type 0 where
   pub size : length marks' ≡ length marks
-  pub front : take (40 * (m + 1)) marks' ≡ take (40 * (m + 1)) marks
-  pub back : (e : ℕ) → q n ≤ e → drop (40 * (e + 1)) marks' ≡ drop (40 * (e + 1)) marks
+  pub front : take (markWords * (m + 1)) marks' ≡ take (markWords * (m + 1)) marks
+  pub back : (e : ℕ) → q n ≤ e → drop (markWords * (e + 1)) marks' ≡ drop (markWords * (e + 1)) marks
 
-pub rewritten : (code n m : ℕ) (sheet marks : List ℕ) → m ≤ q n → 40 * (q n + 1) ≤ length marks
+pub rewritten : (code n m : ℕ) (sheet marks : List ℕ) → m ≤ q n → markWords * (q n + 1) ≤ length marks
     → Rewritten n m (worked code n sheet marks m .marks) marks
 unfolding worked
 rewritten code n m sheet marks h l =
-    let i : ℕ = 40 * (m + 1) in
+    let i : ℕ = markWords * (m + 1) in
     let s : List Block = stateFrom (widthAt code) (markAt marks m) in
-    let p : List ℕ = marksAfter (widthAt code) (q n - m) s (drop (160 * m) (held n sheet)) in
-    let k : length p ≡ 40 * (q n - m) = length-marksAfter (widthAt code) (q n - m) s (drop (160 * m) (held n sheet)) in
+    let p : List ℕ = marksAfter (widthAt code) (q n - m) s (drop (groupBytes * m) (held n sheet)) in
+    let k : length p ≡ markWords * (q n - m) = length-marksAfter (widthAt code) (q n - m) s (drop (groupBytes * m) (held n sheet)) in
     record {
       size = length-overwriteAt i p marks (omega arith);
       front = take-overwriteAt i i p marks (omega arith) (omega arith);
-      back = λ e f. drop-overwriteAt i (40 * (e + 1)) p marks (omega arith) (omega arith);
+      back = λ e f. drop-overwriteAt i (markWords * (e + 1)) p marks (omega arith) (omega arith);
     }
 
 -- a digest has the length that its code names, whatever the marks

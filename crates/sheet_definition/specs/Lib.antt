@@ -1,5 +1,9 @@
--- The sheet, its marks, the calls over them and runs of calls, as document 01 defines them.
+-- The sheet, its marks, the calls over them and runs of calls, as document 01 defines them, in the order in which to read them; Said has the
+-- words of what is proved.
 pub mod Sheet
 pub mod Marks
+pub mod Refusals
+pub mod Save
 pub mod SheetCalls
 pub mod Run
+pub mod Said

@@ -1,25 +1,19 @@
--- The sheet's marks and the work from a mark to the end: document 01, "Sheet and marks". A sheet is its bytes, of which the first 40n count; a
--- mark is 40 words, the state after the groups before it.
+-- The marks of a sheet, and the work from a mark to the end of the sheet: document 01, "Sheet and marks".
 use mathlib.Core.Path.{_≡_}
 use Prim.Native.Nat.{ℕ, zero, suc, _+_, _-_, _*_, _≤_}
 use mathlib.Core.List.{List, [], _∷_, _++_}
 use lib.ListN.{length, getD, take, drop}
 use Rattle.definition.specs.declared.Block.{Block}
 use Rattle.definition.specs.declared.Width.{Width}
-use Rattle.definition.specs.Word.{bytesOfAll}
 use Rattle.definition.specs.Round.{chain}
 use Rattle.definition.specs.Padding.{closing, padded, blocks}
 use Rattle.definition.specs.Start.{blockCount, start}
-use Rattle.definition.specs.Final.{finalRounds, final}
+use Rattle.definition.specs.Final.{finalRounds}
 use Rattle.definition.specs.State.{five, stateOf}
-use Rattle.definition.specs.Luffa.{widthAt, wordsAt}
+use Rattle.definition.specs.Luffa.{widthAt, wordsAt, digestAfter}
 use Rattle.definition.specs.Buffer.{overwriteAt}
 use Rattle.definition.specs.Block.{wordsOfAll}
-use Rattle.sheet_definition.specs.Sheet.{recordBytes, markWords, q}
-
--- the bytes of a group: four records, five message blocks
-abbrev pub groupBytes : ℕ
-groupBytes = 160
+use Rattle.sheet_definition.specs.Sheet.{World, recordBytes, groupBytes, markWords, q}
 
 -- the bytes of n records
 unfoldable pub held : (n : ℕ) → List ℕ → List ℕ
@@ -65,12 +59,7 @@ marksAfter w (suc k) h x =
     let h' : List Block = chain w h (blocks (take groupBytes x)) in
     markOf h' ++ marksAfter w k h' (drop groupBytes x)
 
--- the digest of a sheet whose last bytes are x, from the state before them
-unfoldable pub digestAfter : (code : ℕ) → List Block → List ℕ → List ℕ
-digestAfter code h x =
-    bytesOfAll (final (widthAt code) (wordsAt code) (chain (widthAt code) h (blocks (padded closing x))))
-
--- the rounds that are run for it: one for each block of the padded bytes, and the final stage's
+-- the rounds that are run for the digest of a message whose last bytes are x: one for each block of the padded bytes, and the final stage's
 unfoldable pub roundsAfter : (code : ℕ) → List ℕ → ℕ
 roundsAfter code x = length (blocks (padded closing x)) + finalRounds (wordsAt code)
 
@@ -91,12 +80,13 @@ worked code n sheet marks m =
       rounds = roundsAfter code x;
     }
 
--- mark m is true when it holds the state after the groups before it
-unfoldable pub TrueMark : (code : ℕ) → (sheet marks : List ℕ) → (m : ℕ) → Type 0
-TrueMark code sheet marks m =
-    stateFrom (widthAt code) (markAt marks m)
-    ≡ chain (widthAt code) (start (widthAt code)) (blocks (take (groupBytes * m) sheet))
+-- "Mark m is 40 words: the state after the first 5m blocks"
+unfoldable pub stateAfter : (code : ℕ) → (sheet : List ℕ) → (m : ℕ) → List Block
+stateAfter code sheet m = chain (widthAt code) (start (widthAt code)) (blocks (take (groupBytes * m) sheet))
 
--- the marks of a sheet of n records are true when each of marks 0 to q is
-unfoldable pub TrueMarks : (code n : ℕ) → (sheet marks : List ℕ) → Type 0
-TrueMarks code n sheet marks = (m : ℕ) → m ≤ q n → TrueMark code sheet marks m
+-- "Marks are true when each holds that state.": marks 0 to q; what else stands in a mark is not read
+unfoldable pub TrueMark : (code : ℕ) → (sheet marks : List ℕ) → (m : ℕ) → Type 0
+TrueMark code sheet marks m = stateFrom (widthAt code) (markAt marks m) ≡ stateAfter code sheet m
+
+unfoldable pub TrueMarks : World → Type 0
+TrueMarks w = (m : ℕ) → m ≤ q (w .n) → TrueMark (w .code) (w .sheet) (w .marks) m

@@ -1,79 +1,76 @@
-// Which refusal comes first, from codes, numbers and lengths alone (document 01, "Refusal numbers"). Whether a claim is stale is judged
-// afterwards.
+// Which refusal comes first, from codes, numbers and lengths alone (document 01, "Refusal numbers"): a function for each refusal, and for each
+// call its list of them. Whether a claim is stale is judged afterwards.
 ghost use mathlib.Core.Path.{_≡_};
-ghost use mathlib.Core.Bool.{false};
 ghost use mathlib.Core.List.{[], _∷_};
-ghost use Rattle.definition.specs.Refusal.{STALE as STALE', firstOf};
-ghost use Rattle.sheet_definition.specs.Sheet.{sheetRefusal, sizeRefusal, claimRefusal, buildRefusals, changeRefusals, appendRefusals, dropRefusals};
+ghost use Rattle.definition.specs.Luffa.{bytesAt};
+ghost use Rattle.definition.specs.Refusal.{firstOf, whenDone};
+ghost use Rattle.sheet_definition.specs.Refusals.{sheetRefusal, marksRefusal, placeRefusal, fullRefusal, sizeRefusal, claimRefusal, buildRefusals, changeRefusals, appendRefusals, dropRefusals};
 use sheet_definition::MARK;
 use sheet_definition::MOST;
 use sheet_definition::RECORD;
 
-// The refusal numbers of document 01.
-pub const DONE: u64 = 0;
-
-pub const WIDTH: u64 = 1;
-
-pub const OUT: u64 = 2;
-
-pub const SHEET: u64 = 5;
-
-pub const MARKS: u64 = 6;
-
-pub const PLACE: u64 = 7;
-
-pub const FULL: u64 = 8;
-
-pub const SIZE: u64 = 9;
-
-pub const CLAIM: u64 = 10;
-
-pub const STALE: u64 = 11;
-
-// Refusal 5 alone: whether the buffer holds n records. n is held to the most before it is multiplied.
-pub fn held(sheet: usize, n: usize) -> u64
+// 5: whether the buffer holds n records, at most 1,024. Lengths are divided and n isn't multiplied, so that nothing wraps.
+pub fn records(n: usize, sheet: usize) -> u32
     ensures { λ r. ⌜ r ≡ firstOf (sheetRefusal n sheet ∷ []) ⌝ }
 {
-    if MOST < n {
-        return SHEET;
-    }
-    if sheet < RECORD * n {
-        return SHEET;
-    }
-    DONE
+    refusals::when((MOST < n) | (sheet / RECORD < n), refusals::SHEET)
 }
 
-// The four refusals that every save begins with.
-pub fn build(code: usize, sheet: usize, n: usize, marks: usize, out: usize) -> u64
-    ensures { λ r. ⌜ r ≡ firstOf (buildRefusals code sheet n marks out) ⌝ }
+// 6: whether there is room for the marks of n records.
+fn marks_room(n: usize, marks: usize) -> u32
+    ensures { λ r. ⌜ r ≡ firstOf (marksRefusal n marks ∷ []) ⌝ }
 {
-    if !codes::known(code) {
-        return WIDTH;
-    }
-    if out < 4 * codes::words(code) {
-        return OUT;
-    }
-    let five = held(sheet, n);
-    if five != DONE {
-        return five;
-    }
-    if marks < MARK * (n / 4 + 1) {
-        return MARKS;
-    }
-    DONE
+    refusals::when(marks / MARK <= n / 4, refusals::MARKS)
 }
 
-// The record's length and the claim's, which every save judges last; a drop writes a whole record of zeros.
-fn sized(code: usize, record: usize, claim: usize) -> u64
-    ensures { λ r. ⌜ r ≡ firstOf (sizeRefusal «record» ∷ claimRefusal code claim ∷ (STALE', false) ∷ []) ⌝ }
+// 7: whether n records have such a place.
+fn has_place(n: usize, place: usize) -> u32
+    ensures { λ r. ⌜ r ≡ firstOf (placeRefusal n place ∷ []) ⌝ }
 {
-    if record != RECORD {
-        return SIZE;
-    }
-    if claim != 4 * codes::words(code) {
-        return CLAIM;
-    }
-    DONE
+    refusals::when(n <= place, refusals::PLACE)
+}
+
+// 8: whether there is room for a record more. Of n + 1 records floor(n/4) groups are full, and one more where r = 3.
+fn one_more(n: usize, sheet: usize, marks: usize) -> u32
+    ensures { λ r. ⌜ r ≡ firstOf (fullRefusal n sheet marks ∷ []) ⌝ }
+{
+    refusals::when(
+        (n == MOST) | (sheet / RECORD <= n) | (marks / MARK <= n / 4 + n % 4 / 3),
+        refusals::FULL,
+    )
+}
+
+// 9: whether the new record has 40 bytes.
+fn record_size(record: usize) -> u32
+    ensures { λ r. ⌜ r ≡ firstOf (sizeRefusal «record» ∷ []) ⌝ }
+{
+    refusals::when(record != RECORD, refusals::SIZE)
+}
+
+// 10: whether the claim has the digest's bytes.
+fn claim_size(code: usize, claim: usize) -> u32
+    ensures { λ r. ⌜ r ≡ firstOf (claimRefusal (bytesAt code) claim ∷ []) ⌝ }
+{
+    refusals::when(claim != 4 * codes::words(code), refusals::CLAIM)
+}
+
+// The four refusals that every sheet call begins with.
+pub fn build(code: usize, sheet: usize, n: usize, marks: usize, out: usize) -> u32
+    ensures { λ r. ⌜ r ≡ firstOf (buildRefusals (record { code = code; n = n; sheetLength = sheet; marksLength = marks; outLength = out })) ⌝ }
+{
+    let one = refusals::width(code);
+    let two = refusals::out(4 * codes::words(code), out);
+    let five = records(n, sheet);
+    let six = marks_room(n, marks);
+    refusals::first(one, refusals::first(two, refusals::first(five, six)))
+}
+
+// A save's own refusal, then those of the record and of the claim.
+fn sized(own: u32, code: usize, record: usize, claim: usize) -> u32
+    ensures { λ r. ⌜ r ≡ whenDone own (firstOf (sizeRefusal «record» ∷ claimRefusal (bytesAt code) claim ∷ [])) own ⌝ }
+{
+    let sizes = refusals::first(record_size(record), claim_size(code, claim));
+    refusals::first(own, sizes)
 }
 
 pub fn change(
@@ -85,17 +82,11 @@ pub fn change(
     record: usize,
     claim: usize,
     out: usize,
-) -> u64
-    ensures { λ r. ⌜ r ≡ firstOf (changeRefusals code sheet n marks place «record» claim out false) ⌝ }
+) -> u32
+    ensures { λ r. ⌜ r ≡ firstOf (changeRefusals (record { code = code; n = n; sheetLength = sheet; marksLength = marks; outLength = out }) place «record» claim) ⌝ }
 {
-    let first = build(code, sheet, n, marks, out);
-    if first != DONE {
-        return first;
-    }
-    if n <= place {
-        return PLACE;
-    }
-    sized(code, record, claim)
+    let own = sized(has_place(n, place), code, record, claim);
+    refusals::first(build(code, sheet, n, marks, out), own)
 }
 
 pub fn append(
@@ -106,34 +97,16 @@ pub fn append(
     record: usize,
     claim: usize,
     out: usize,
-) -> u64
-    ensures { λ r. ⌜ r ≡ firstOf (appendRefusals code sheet n marks «record» claim out false) ⌝ }
+) -> u32
+    ensures { λ r. ⌜ r ≡ firstOf (appendRefusals (record { code = code; n = n; sheetLength = sheet; marksLength = marks; outLength = out }) «record» claim) ⌝ }
 {
-    let first = build(code, sheet, n, marks, out);
-    if first != DONE {
-        return first;
-    }
-    if n == MOST {
-        return FULL;
-    }
-    if sheet < RECORD * (n + 1) {
-        return FULL;
-    }
-    if marks < MARK * ((n + 1) / 4 + 1) {
-        return FULL;
-    }
-    sized(code, record, claim)
+    let own = sized(one_more(n, sheet, marks), code, record, claim);
+    refusals::first(build(code, sheet, n, marks, out), own)
 }
 
-pub fn drop(code: usize, sheet: usize, n: usize, marks: usize, claim: usize, out: usize) -> u64
-    ensures { λ r. ⌜ r ≡ firstOf (dropRefusals code sheet n marks claim out false) ⌝ }
+pub fn drop(code: usize, sheet: usize, n: usize, marks: usize, claim: usize, out: usize) -> u32
+    ensures { λ r. ⌜ r ≡ firstOf (dropRefusals (record { code = code; n = n; sheetLength = sheet; marksLength = marks; outLength = out }) claim) ⌝ }
 {
-    let first = build(code, sheet, n, marks, out);
-    if first != DONE {
-        return first;
-    }
-    if n == 0 {
-        return PLACE;
-    }
-    sized(code, RECORD, claim)
+    let own = refusals::first(has_place(n, 0), claim_size(code, claim));
+    refusals::first(build(code, sheet, n, marks, out), own)
 }

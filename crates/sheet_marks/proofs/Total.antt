@@ -15,10 +15,10 @@ use Rattle.definition.specs.Block.{wordsOf, wordsOfAll}
 use Rattle.definition.specs.Start.{blockCount}
 use Rattle.definition.specs.State.{five, stateOf}
 use Rattle.definition.specs.Buffer.{overwriteAt}
-use Rattle.sheet_definition.specs.Sheet.{q, r, zeroed}
+use Rattle.sheet_definition.specs.Sheet.{markWords, q, r}
 use Rattle.sheet_definition.specs.Marks.{blockFrom, markAt, stateFrom}
-use Rattle.sheet_definition.specs.SheetCalls.{zeroMarks}
-use Rattle.sheet_definition.proofs.Saves.{zero-one, zero-none}
+use Rattle.sheet_definition.specs.SheetCalls.{withoutLast}
+use Rattle.sheet_definition.proofs.Edits.{zeroes, zeroes-none}
 use Rattle.bytes.specs.Total.{writeAt}
 use Rattle.bytes.proofs.Total.{write-at}
 use Rattle.sheet_marks.specs.Total.{whenUsed, stateWhen, stateAt, clearWhen, cleared}
@@ -41,17 +41,17 @@ found-state W3 ws = refl
 found-state W4 ws = refl
 found-state W5 ws = refl
 
-module _ (marks : List ℕ) (m : ℕ) (h : 40 * (m + 1) ≤ length marks) where
+module _ (marks : List ℕ) (m : ℕ) (h : markWords * (m + 1) ≤ length marks) where
   pub read-at : (w : Width) → stateAt w marks m ≡ stateOf (stateFrom w (markAt marks m))
   unfolding stateAt stateWhen
-  read-at w = rw (le-leb (40 * (m + 1)) (length marks) h)
+  read-at w = rw (le-leb (markWords * (m + 1)) (length marks) h)
 
   pub found-at : (w : Width) → found w (markAt marks m) ≡ stateAt w marks m
   found-at w = found-state w (markAt marks m) ∙ sym (read-at w)
 
-  pub written-at : (s : State) → writeAt (40 * m) (wordsOfAll (five s)) marks ≡ overwriteAt (40 * m) (wordsOfAll (five s)) marks
+  pub written-at : (s : State) → writeAt (markWords * m) (wordsOfAll (five s)) marks ≡ overwriteAt (markWords * m) (wordsOfAll (five s)) marks
   unfolding wordsOfAll five wordsOf
-  written-at s = write-at (40 * m) (wordsOfAll (five s)) marks (omega arith)
+  written-at s = write-at (markWords * m) (wordsOfAll (five s)) marks (omega arith)
 
 -- where the records become no fewer nothing is cleared
 pub cleared-none : (n count : ℕ) (marks : List ℕ) → n ≤ count → cleared n count marks ≡ marks
@@ -59,12 +59,12 @@ unfolding cleared clearWhen
 cleared-none n count marks h = rw (le-ltb count n h)
 
 -- else what a drop zeroes
-pub cleared-fewer : (n count : ℕ) (marks : List ℕ) → count < n → 40 * (q n + 1) ≤ length marks
-    → cleared n count marks ≡ zeroMarks (zeroed n) marks
-unfolding cleared clearWhen zeroMarks
+pub cleared-fewer : (n count : ℕ) (marks : List ℕ) → count < n → markWords * (q n + 1) ≤ length marks
+    → cleared n count marks ≡ withoutLast n marks
+unfolding cleared clearWhen
 cleared-fewer n count marks h l =
     elim (ℕ-discrete (r n) 0) [
-      | yes e ↦ rw (lt-ltb count n h, eq-eqb (r n) 0 e, zero-one n e)
-          (write-at (40 * q n) (replicate 40 0) marks (omega (arith, length-replicate {A = ℕ} 40 0)))
-      | no e ↦ rw (lt-ltb count n h, ne-eqb (r n) 0 e, zero-none n e)
+      | yes e ↦ rw (lt-ltb count n h, eq-eqb (r n) 0 e, zeroes n marks e)
+          (write-at (markWords * q n) (replicate markWords 0) marks (omega (arith, length-replicate {A = ℕ} markWords 0)))
+      | no e ↦ rw (lt-ltb count n h, ne-eqb (r n) 0 e, zeroes-none n marks e)
     ]

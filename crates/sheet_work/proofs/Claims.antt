@@ -3,15 +3,15 @@
 use mathlib.Core.Path.{_≡_, refl, sym, ap, _∙_}
 use mathlib.Core.Bool.{Bool, true, _&&_}
 use mathlib.Core.List.{List, [], _∷_}
-use Prim.Native.Nat.{ℕ, _<_, _≤_}
+use Prim.Native.Nat.{ℕ, _+_, _<_, _≤_}
 use native.Mathlib.Omega.{arith}
 use lib.Dec.{eqb}
 use lib.ListN.{length, getD, take, drop, length-append}
-use lib.Seq.{take-at}
 use Rattle.definition.specs.Luffa.{bytesAt}
-use Rattle.definition.specs.Buffer.{overwrite, same}
+use Rattle.definition.specs.Buffer.{overwriteAt, overwrite, same}
 use Rattle.sheet_definition.specs.Marks.{worked}
 use Rattle.sheet_definition.proofs.Writes.{length-digest}
+use Rattle.sheet_definition.proofs.Fair.{read-written}
 
 abbrev pub front : (x d : List ℕ) → Bool
 front x d = same x (take (length x) d)
@@ -32,14 +32,12 @@ module _ (code n m : ℕ) (sheet marks claim buffer digest : List ℕ) (h : leng
     (e : digest ≡ overwrite (worked code n sheet marks m .digest) buffer) where
   -- a digest that was worked out stands in front of its buffer
   pub in-front : length claim ≤ length digest
-  unfolding overwrite
+  unfolding overwriteAt
   in-front =
       let d : List ℕ = worked code n sheet marks m .digest in
-      omega (arith, length-digest code n m sheet marks, ap length e, length-append d (drop (length d) buffer))
+      omega (arith, length-digest code n m sheet marks, ap length e, length-append d (drop (0 + length d) buffer))
 
   -- and is what the claim is compared with
   pub compared : take (length claim) digest ≡ worked code n sheet marks m .digest
-  unfolding overwrite
   compared =
-      let d : List ℕ = worked code n sheet marks m .digest in
-      ap (take (length claim)) e ∙ take-at d (drop (length d) buffer) (length claim) (length-digest code n m sheet marks ∙ sym h)
+      ap (take (length claim)) e ∙ read-written 0 (length claim) (worked code n sheet marks m .digest) buffer (length-digest code n m sheet marks ∙ sym h) (omega arith)

@@ -19,10 +19,10 @@ use Rattle.definition.specs.Start.{blockCount}
 use Rattle.definition.specs.State.{five, blocksIn, stateOf}
 use Rattle.definition.specs.Final.{final, finalRounds}
 use Rattle.definition.specs.Counted.{countedChain}
-use Rattle.definition.specs.Luffa.{widthAt, wordsAt, bytesAt}
+use Rattle.definition.specs.Luffa.{widthAt, wordsAt, bytesAt, digestAfter}
 use Rattle.definition.specs.Buffer.{overwriteAt, overwrite}
 use Rattle.sheet_definition.specs.Sheet.{q}
-use Rattle.sheet_definition.specs.Marks.{held, markAt, stateFrom, markOf, marksAfter, digestAfter, roundsAfter, worked}
+use Rattle.sheet_definition.specs.Marks.{held, markAt, stateFrom, markOf, marksAfter, roundsAfter, worked}
 use Rattle.definition.proofs.Buffer.{overwriteAt-more, overwriteAt-none}
 use Rattle.definition.proofs.Chain.{blocks-of-state, counted-append, counted-state, counted-blocks, counted-rounds}
 use Rattle.definition.proofs.Codes.{words-le}

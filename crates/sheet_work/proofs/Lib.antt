@@ -1,2 +1,3 @@
 pub mod Claims
 pub mod Groups
+pub mod Admission

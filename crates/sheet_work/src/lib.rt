@@ -6,9 +6,10 @@ ghost use Prim.Native.Nat.{_+_, _*_, _^_, _<_, _≤_};
 ghost use lib.ListN.{length, take};
 ghost use Rattle.definition.specs.Luffa.{bytesAt};
 ghost use Rattle.definition.specs.Buffer.{overwrite, same};
-ghost use Rattle.sheet_definition.specs.Sheet.{most, q};
+ghost use Rattle.sheet_definition.specs.Sheet.{most, recordBytes, markWords, q};
 ghost use Rattle.sheet_definition.specs.Marks.{worked};
-ghost use Rattle.sheet_definition.specs.SheetCalls.{checked, stale};
+ghost use Rattle.sheet_definition.specs.Save.{checked, staleClaim};
+ghost use Rattle.sheet_work.specs.Admission.{admission};
 use definition::Counted;
 
 // The bytes of a group: four records, five message blocks.
@@ -25,7 +26,7 @@ pub fn work_on(
     before: u64,
     out: &mut [u8],
 ) -> u64
-    requires { ⌜ (n ≤ most) × (40 * n ≤ length (now sheet)) × (40 * (q n + 1) ≤ length (now marks)) × (m ≤ q n) × (before < 2 ^ 32) × (bytesAt code ≤ length (now out)) ⌝ }
+    requires { ⌜ (n ≤ most) × (recordBytes * n ≤ length (now sheet)) × (markWords * (q n + 1) ≤ length (now marks)) × (m ≤ q n) × (before < 2 ^ 32) × (bytesAt code ≤ length (now out)) ⌝ }
     ensures { λ r. ⌜ r ≡ before + worked code n (now (sheet .entry)) (now (marks .entry)) m .rounds ⌝ }
     ensures { λ r. ⌜ now (marks .exit) ≡ worked code n (now (sheet .entry)) (now (marks .entry)) m .marks ⌝ }
     ensures { λ r. ⌜ now (out .exit) ≡ overwrite (worked code n (now (sheet .entry)) (now (marks .entry)) m .digest) (now (out .entry)) ⌝ }
@@ -69,15 +70,15 @@ fn differs(claim: &[u8], digest: &[u8]) -> bool
 }
 
 // What the check of a save found, and the rounds it took.
-pub struct Checked {
-    pub stale: bool,
-    pub rounds: u64,
+struct Checked {
+    stale: bool,
+    rounds: u64,
 }
 
 // Whether a claim isn't the digest of the sheet held, worked out from mark q as found.
-pub fn check(code: usize, sheet: &[u8], n: usize, marks: &mut [u32], claim: &[u8]) -> Checked
-    requires { ⌜ (n ≤ most) × (40 * n ≤ length (now sheet)) × (40 * (q n + 1) ≤ length (now marks)) × (length (now claim) ≡ bytesAt code) ⌝ }
-    ensures { λ r. ⌜ r ≡ record { stale = stale code n (now (sheet .entry)) (now (marks .entry)) (now (claim .entry)); rounds = checked code n (now (sheet .entry)) (now (marks .entry)) .rounds } ⌝ }
+fn check(code: usize, sheet: &[u8], n: usize, marks: &mut [u32], claim: &[u8]) -> Checked
+    requires { ⌜ (n ≤ most) × (recordBytes * n ≤ length (now sheet)) × (markWords * (q n + 1) ≤ length (now marks)) × (length (now claim) ≡ bytesAt code) ⌝ }
+    ensures { λ r. ⌜ r ≡ record { stale = staleClaim (record { code = code; n = n; sheet = now (sheet .entry); marks = now (marks .entry) }) (now (claim .entry)); rounds = checked (record { code = code; n = n; sheet = now (sheet .entry); marks = now (marks .entry) }) .rounds } ⌝ }
     ensures { λ r. ⌜ now (marks .exit) ≡ now (marks .entry) ⌝ }
 {
     let mut digest = [0u8; 64];
@@ -85,5 +86,37 @@ pub fn check(code: usize, sheet: &[u8], n: usize, marks: &mut [u32], claim: &[u8
     Checked {
         stale: differs(claim, &digest),
         rounds: rounds,
+    }
+}
+
+// What a save comes to before it writes: the number that refuses it, or 0, and the rounds run so far.
+pub struct Admitted {
+    pub number: u32,
+    pub rounds: u64,
+}
+
+// Judged, checked, stale or go on: so every save begins, with the number that its arguments were judged by.
+pub fn admit(
+    number: u32,
+    code: usize,
+    sheet: &[u8],
+    n: usize,
+    marks: &mut [u32],
+    claim: &[u8],
+) -> Admitted
+    requires { ⌜ (number ≡ 0 → (n ≤ most) × (recordBytes * n ≤ length (now sheet)) × (markWords * (q n + 1) ≤ length (now marks)) × (length (now claim) ≡ bytesAt code)) ⌝ }
+    ensures { λ r. ⌜ r ≡ admission number (record { code = code; n = n; sheet = now (sheet .entry); marks = now (marks .entry) }) (now (claim .entry)) ⌝ }
+    ensures { λ r. ⌜ now (marks .exit) ≡ now (marks .entry) ⌝ }
+{
+    if number != refusals::DONE {
+        return Admitted {
+            number: number,
+            rounds: 0,
+        };
+    }
+    let c = check(code, sheet, n, marks, claim);
+    Admitted {
+        number: refusals::when(c.stale, refusals::STALE),
+        rounds: c.rounds,
     }
 }

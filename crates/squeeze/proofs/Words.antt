@@ -21,7 +21,7 @@ use Rattle.definition.specs.State.{five, blocksIn, stateOf}
 use Rattle.definition.specs.Final.{outputs, finalRounds, final}
 use Rattle.definition.specs.Counted.{countedRound, countedChain}
 use Rattle.definition.specs.Buffer.{overwrite}
-use Rattle.definition.proofs.Buffer.{length-overwrite}
+use Rattle.definition.proofs.Buffer.{length-overwriteAt}
 use Rattle.definition.proofs.Chain.{counted-snoc, counted-state, length-blocksIn}
 use Rattle.definition.proofs.Word.{length-bytes, bytes-snoc}
 use Rattle.definition.proofs.Final.{blank, length-outputs, output-at, xor-five, length-blank}
@@ -151,4 +151,4 @@ pub put-length : (w : Width) (q₀ : Squeezed) (i : ℕ) (out out₀ : List ℕ)
     → out ≡ overwrite (bytesOfAll (wordsTo w q₀ i)) out₀ → length out ≡ length out₀
 put-length w q₀ i out out₀ h f =
     let ws : List ℕ = wordsTo w q₀ i in
-    ap length f ∙ length-overwrite (bytesOfAll ws) out₀ (omega (arith, length-bytes ws, length-words w q₀ i))
+    ap length f ∙ length-overwriteAt 0 (bytesOfAll ws) out₀ (omega (arith, length-bytes ws, length-words w q₀ i))

@@ -103,4 +103,4 @@ sheet-after-sheet-spec =
     (λ c. omega (arith, small (c .before .before .before .before .before)))
     (λ c. omega (arith, small (c .before .before .before .before .before .before)))
     (λ c. omega (arith, small (call c)))
-    add-at add-k (λ c. omega arith) loop-again (λ c. c .before .loop .inv .in-intake .long) (λ c. c .before .loop .inv .in-spare .long) returns)
+    add-at add-k (λ c. omega arith) loop-again (λ c. search needs) (λ c. c .before .loop .inv .in-intake .long) (λ c. c .before .loop .inv .in-spare .long) returns)

@@ -14,4 +14,4 @@ returns c = rw (← c .before .judge .ensures) (sym (not-done (c .before .judge 
 pub statement-spec : {M : Type 1} → statement M
 statement-spec =
     tie.close
-    (tie.spec (λ c κs. tt) returns (λ c κs. search needs) (λ c. search needs) (λ c. search needs) (λ c. search needs))
+    (tie.spec (λ c κs. tt) (λ c. search needs) returns (λ c κs. search needs) (λ c. search needs) (λ c. search needs) (λ c. search needs))

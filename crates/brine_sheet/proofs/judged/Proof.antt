@@ -1,23 +1,21 @@
--- `brine_sheet::judged` meets its contract: 5 is given, or the lists alone decide.
+-- `brine_sheet::judged` meets its contract: 5 and 25 in turn.
 -- Assumes nothing.
 use mathlib.Core.Path.{sym, _∙_}
-use Rattle.definition.proofs.Refusals.{none, more, front-given, rest-given}
-use Rattle.sheet_definition.specs.Sheet.{sheetRefusal}
+use mathlib.Core.List.{[], _∷_}
+use native.Mathlib.Omega.{arith}
+use Rattle.sheet_definition.specs.Refusals.{sheetRefusal}
+use Rattle.definition.proofs.Refusals.{judged}
 use Rattle.brine_sheet.proofs.Alone.{alone}
 use Rattle.brine_sheet.proofs.judged.Statement.{statement}
 use Rattle.brine_sheet.proofs.judged.Tie as tie
 
 returns : tie.Need-returns
-returns c =
-    let a = c .before .before .args in
-    front-given _ _ (c .before .held .ensures) (c .if1 .taken) ∙ sym (alone (a .sheet) (a .n) (a .intake) (a .spare))
-
-returns-2 : tie.Need-returns-2
 unfolding sheetRefusal
-returns-2 c =
-    let h = c .before .before in
-    let a = h .before .args in
-    c .listed .ensures ∙ sym (rest-given _ (more none) (h .held .ensures) (c .before .if1 .left)) ∙ sym (alone (a .sheet) (a .n) (a .intake) (a .spare))
+returns c =
+    let l = c .before in
+    let a = l .before .before .args in
+    judged (_ ∷ []) (_ ∷ []) (omega arith) (c .first .ensures) (l .before .records .ensures) (l .listed .ensures)
+    ∙ sym (alone (a .sheet) (a .n) (a .intake) (a .spare))
 
 pub judged-spec : {M : Type 1} → statement M
-judged-spec = tie.close (tie.spec (λ c κs. tt) returns (λ c κs. tt) returns-2)
+judged-spec = tie.close (tie.spec (λ c κs. tt) (λ c κs. tt) (λ c κs. tt) returns)

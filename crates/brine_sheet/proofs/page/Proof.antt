@@ -65,5 +65,5 @@ clear-requires c κs = let s = c .before .before .before .before in s .pre .3 �
 pub page-spec : {M : Type 1} → statement M
 page-spec =
     tie.close
-    (tie.spec clear-requires (λ c κs. tt) (λ c κs. tt) sound-sheet-requires (λ c. search needs) (λ c. search needs) returns (λ c κs. tt)
+    (tie.spec clear-requires (λ c κs. tt) (λ c κs. tt) sound-sheet-requires (λ c. search needs) (λ c. search needs) returns (λ c. search needs) (λ c κs. tt)
     (λ c. search needs) (λ c. search needs) returns-2)

@@ -54,6 +54,6 @@ returns-2 c =
 pub statement-spec : {M : Type 1} → statement M
 statement-spec =
     tie.close
-    (tie.spec (λ c κs. tt) (λ c κs. tt) returns (λ c. room (c .before) .2) (λ c. sym (length-take-le _ _ (room (c .before .before) .2)))
+    (tie.spec (λ c κs. tt) (λ c. search needs) (λ c κs. tt) returns (λ c. room (c .before) .2) (λ c. sym (length-take-le _ _ (room (c .before .before) .2)))
     (λ c. room (c .before .before) .3) (λ c. sym (length-take-le _ _ (room (c .before .before .before) .3))) page-requires (λ c. search needs)
     (λ c. search needs) returns-2)

@@ -15,7 +15,7 @@ use Rattle.definition.specs.Word.{bytesOfAll}
 use Rattle.definition.specs.Buffer.{overwrite}
 use Rattle.definition.specs.Final.{final}
 use Rattle.definition.specs.State.{blocksIn}
-use Rattle.definition.specs.Luffa.{bytesAt}
+use Rattle.definition.specs.Luffa.{bytesAt, digestAfter}
 use Rattle.definition.specs.Refusal.{pick, firstOf, outRefusal}
 use Rattle.hash_definition.specs.Record.{wellKept, pendingCount, pendingBytes, finished}
 use Rattle.hash_definition.specs.Lent.{keptRefusal, lentFinishRefusals, lentFinishOutcome}
@@ -57,7 +57,7 @@ slice-aggregate-absorb-last : tie.Need-slice-aggregate-absorb-last
 slice-aggregate-absorb-last c = sym (length-take-le _ _ (in-front (start (c .before))))
 
 returns-3 : tie.Need-returns-3
-unfolding lentFinishOutcome lentFinishRefusals firstOf pick keptRefusal outRefusal bytesAt finished pendingBytes pendingCount
+unfolding lentFinishOutcome lentFinishRefusals firstOf pick keptRefusal outRefusal bytesAt finished digestAfter pendingBytes pendingCount
 returns-3 c =
     let q = c .before .before in
     let l = q .before .before in

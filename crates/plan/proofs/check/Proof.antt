@@ -4,6 +4,7 @@ use mathlib.Core.Path.{_≡_, sym, _∙_, fun-ext}
 use mathlib.Core.Bool.{or-false}
 use Prim.Native.Nat.{_*_, _≤_}
 use denote.Ref.{now}
+use borrow.Author.Needs.{needs}
 use lib.ListN.{length}
 use Rattle.definition.specs.Refusal.{firstOf, whenDone}
 use Rattle.definition.proofs.Refusals.{not-done}
@@ -18,13 +19,13 @@ use Rattle.plan.proofs.check.Statement.{statement}
 use Rattle.plan.proofs.check.Tie as tie
 
 -- the number is that of the refusals
-number : (c : tie.After-held) → c .held .result ≡ firstOf (checkRefusals (c .before .before .args .n) (length (now (c .before .before .args .sheet))))
+number : (c : tie.After-records) → c .records .result ≡ firstOf (checkRefusals (c .before .before .args .n) (length (now (c .before .before .args .sheet))))
 unfolding checkRefusals
-number c = c .held .ensures
+number c = c .records .ensures
 
 returns : tie.Need-returns
 unfolding verdict
-returns c = rw (← number (c .before)) (sym (not-done (c .before .held .result) _ _ (c .if1 .taken)))
+returns c = rw (← number (c .before)) (sym (not-done (c .before .records .result) _ _ (c .if1 .taken)))
 
 -- there is room for the records
 fits : (c : tie.Else1) → 40 * c .before .before .before .args .n ≤ length (now (c .before .before .before .args .sheet))
@@ -45,4 +46,4 @@ returns-2 c =
 pub check-spec : {M : Type 1} → statement M
 check-spec =
     tie.close
-    (tie.spec (λ c κs. tt) returns (λ c κs. fits (c .before)) (λ c κs. (fits (c .before .before .before), injectors (c .before))) returns-2)
+    (tie.spec (λ c κs. tt) (λ c. search needs) returns (λ c κs. fits (c .before)) (λ c κs. (fits (c .before .before .before), injectors (c .before))) returns-2)

@@ -1,51 +1,66 @@
--- `sheet::append` meets its contract: refused by its other arguments, or a save.
+-- `sheet::append` meets its contract: judged, and then a save of one record.
 -- Assumes nothing.
+use mathlib.Core.Path.{_≡_, sym, _∙_}
+use Prim.Native.Nat.{ℕ, _+_, _<_}
+use native.Mathlib.Decide.{decLe}
 use native.Mathlib.Omega.{arith}
+use borrow.Author.Tests.{lt-ltb, le-ltb}
+use lib.Dec.{ltb}
+use lib.ListN.{length}
+use mir.Val.{boolByte}
 use denote.Ref.{now}
 use borrow.Author.Needs.{needs}
-use Rattle.sheet_definition.specs.Run.{World, Call, call, claimOf, outOf, placeOf, countOf, refusalsOf}
-use Rattle.sheet_definition.specs.Run.Call.{Append}
-use Rattle.sheet_definition.proofs.Saves.{recordOf}
-use Rattle.sheet_definition.proofs.Answers.{refused-first}
+use Rattle.sheet_definition.specs.Sheet.{World, recordBytes}
+use Rattle.sheet_definition.specs.SheetCalls.{Call, refusalsOf, oneRecord, editOf, saveOf}
+use Rattle.sheet_definition.specs.SheetCalls.Kind.{Append}
+use Rattle.sheet_definition.proofs.Edits.{recordOf, record-size, proper}
+use Rattle.sheet_marks.specs.Total.{cleared}
+use Rattle.sheet_marks.proofs.Total.{cleared-none}
 use Rattle.sheet.proofs.Saved.{judged, saved}
 use Rattle.sheet.proofs.append.Statement.{statement}
 use Rattle.sheet.proofs.append.Tie as tie
 
--- the sheet as it was lent, and the call
+-- the entry, from the judge; the sheet as it was lent, and the call
+abbrev entered : tie.After-append → tie.Start
+entered j = j .before .before .before .before .before .before
+
 abbrev lent : tie.After-append → World
-lent j =
-    let a = j .before .before .before .before .before .before .args in
-    record { code = a .code; n = a .n; sheet = now (a .sheet); marks = now (a .marks) }
+lent j = let a = entered j .args in record { code = a .code; n = a .n; sheet = now (a .sheet); marks = now (a .marks) }
 
 abbrev asked : tie.After-append → Call
-asked j =
-    let a = j .before .before .before .before .before .before .args in
-    Append (now (a .«record»)) (now (a .claim)) (now (a .out))
+asked j = let a = entered j .args in record { kind = Append (now (a .«record»)); claim = now (a .claim); out = now (a .out) }
 
-returns : tie.Need-returns
-unfolding call refusalsOf outOf
-returns c = refused-first (lent (c .before)) (asked (c .before)) _ (c .before .append .ensures) (c .if1 .taken)
+-- the count that is asked for
+abbrev more : ℕ → ℕ
+more n = n + boolByte (ltb n 1024)
 
-add-save : tie.Need-add-save
-unfolding refusalsOf placeOf countOf
-add-save c =
-    let e = c .before .before in
-    omega (arith, judged (lent (e .before)) (asked (e .before)) (e .before .append .ensures) (e .if1 .left) .new-few)
+add-more : tie.Need-add-more
+add-more c =
+    let n = entered c .args .n in
+    elim (decLe 1024 n) [ yes h ↦ rw (le-ltb n 1024 h) (omega arith) | no h ↦ rw (lt-ltb n 1024 (omega arith)) (omega arith) ]
+
+-- the record has its size, and the edit is the call's
+one : (j : tie.After-append) → j .append .result ≡ 0 → let a = entered j .args in
+    (length (now (a .«record»)) ≡ recordBytes) × (oneRecord (lent j) (a .n) (now (a .«record»)) (more (a .n)) (cleared (a .n) (more (a .n)) (now (a .marks))) ≡ editOf (lent j) (asked j .kind))
+unfolding saveOf refusalsOf recordOf editOf oneRecord
+one j z =
+    let a = entered j .args in
+    let e = sym (j .append .ensures) ∙ z in
+    let h : a .n < 1024 = omega (arith, proper (lent j) (asked j) .fair e .few) in
+    (record-size (lent j) (asked j) (asked j .kind) e, rw (lt-ltb (a .n) 1024 h, cleared-none (a .n) (a .n + 1) (now (a .marks)) (omega arith)))
 
 save-requires : tie.Need-save-requires
-unfolding refusalsOf claimOf outOf placeOf countOf recordOf
+unfolding saveOf refusalsOf
 save-requires c κs =
-    let e = c .before .before .before in
-    judged (lent (e .before)) (asked (e .before)) (e .before .append .ensures) (e .if1 .left)
+    let j = c .before .before .before in
+    judged (lent j) (asked j) _ _ _ (j .append .ensures) (one j)
 
-returns-2 : tie.Need-returns-2
-unfolding call refusalsOf claimOf outOf placeOf countOf recordOf
-returns-2 c =
+returns : tie.Need-returns
+unfolding saveOf refusalsOf
+returns c =
     let s = c .before .before .before .before .before .before in
-    let e = s .before .before .before .before in
-    saved (lent (e .before)) (asked (e .before)) (e .before .append .ensures) (e .if1 .left) (s .save .ensures)
+    let j = s .before .before .before .before in
+    saved (lent j) (asked j) _ _ _ (j .append .ensures) (one j) (s .save .ensures)
 
 pub append-spec : {M : Type 1} → statement M
-append-spec =
-    tie.close
-    (tie.spec (λ c κs. tt) returns add-save save-requires (λ c. search needs) (λ c. search needs) (λ c. search needs) returns-2)
+append-spec = tie.close (tie.spec (λ c κs. tt) (λ c. search needs) add-more save-requires (λ c. search needs) (λ c. search needs) (λ c. search needs) returns)

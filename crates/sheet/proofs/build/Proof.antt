@@ -1,21 +1,20 @@
 -- `sheet::build` meets its contract: refused, or put together from mark 0 and the work.
 -- Assumes nothing.
 use mathlib.Core.Path.{sym, ap, _∙_}
-use mathlib.Core.List.{[]}
 use native.Mathlib.Omega.{arith}
 use denote.Ref.{now}
 use borrow.Author.Needs.{needs}
-use lib.ListN.{length}
 use Rattle.definition.specs.declared.State.{State}
 use Rattle.definition.specs.State.{five}
 use Rattle.definition.specs.Buffer.{overwrite}
 use Rattle.definition.specs.Block.{wordsOfAll}
-use Rattle.sheet_definition.specs.Sheet.{buildRefusals}
+use Rattle.sheet_definition.specs.Sheet.{World}
+use Rattle.sheet_definition.specs.Save.{refusedWith}
 use Rattle.sheet_definition.specs.Marks.{markOf}
-use Rattle.definition.proofs.Buffer.{overwrite-front}
-use Rattle.sheet_definition.proofs.Outcomes.{Fits, fits}
+use Rattle.sheet_definition.proofs.Refused.{Fits, built-fits}
+use Rattle.sheet_definition.proofs.Build.{build-refused, build-done}
 use Rattle.sheet_marks.proofs.Total.{written-at}
-use Rattle.sheet.proofs.Saved.{build-refused, build-together}
+use Rattle.sheet.proofs.Saved.{build-together}
 use Rattle.sheet.proofs.build.Statement.{statement}
 use Rattle.sheet.proofs.build.Tie as tie
 
@@ -23,16 +22,18 @@ use Rattle.sheet.proofs.build.Tie as tie
 abbrev entered : tie.After-build → tie.Start
 entered c = c .before .before .before .before
 
+abbrev lent : tie.After-build → World
+lent c = let a = entered c .args in record { code = a .code; n = a .n; sheet = now (a .sheet); marks = now (a .marks) }
+
 returns : tie.Need-returns
+unfolding refusedWith
 returns c =
     let a = entered (c .before) .args in
-    build-refused (a .code) (now (a .sheet)) (a .n) (now (a .marks)) (now (a .out)) _ (c .before .build .ensures) (c .if1 .taken)
+    build-refused (a .code) (now (a .sheet)) (a .n) (now (a .marks)) (now (a .out)) (c .before .build .ensures) (c .if1 .taken)
 
 -- the arguments are valid
-fine : (c : tie.Else1)
-    → Fits (entered (c .before) .args .code) (length (now (entered (c .before) .args .sheet))) (entered (c .before) .args .n) (length (now (entered (c .before) .args .marks))) (length (now (entered (c .before) .args .out)))
-unfolding buildRefusals
-fine c = fits _ _ _ _ _ [] (sym (c .before .build .ensures) ∙ c .if1 .left) .0
+fine : (c : tie.Else1) → Fits (lent (c .before)) (now (entered (c .before) .args .out))
+fine c = built-fits (lent (c .before)) (now (entered (c .before) .args .out)) (sym (c .before .build .ensures) ∙ c .if1 .left)
 
 work-on-requires : tie.Need-work-on-requires
 work-on-requires c κs =
@@ -50,15 +51,15 @@ returns-2 c =
     let a = entered (e .before) .args in
     let marks = now (a .marks) in
     let h = rw (s .before .width .ensures) at (s .start .ensures) in
-    build-together (a .code) (now (a .sheet)) (a .n) marks (now (a .out)) _ _ _ _ _ (e .before .build .ensures) (e .if1 .left)
+    build-together (a .code) (a .n) _ (now (a .sheet)) marks _ _ (now (a .out)) _
     (w .write .ensures
     ∙ written-at marks 0 (omega (arith, fine e .marks-room)) (s .start .result)
-    ∙ overwrite-front _ _
     ∙ ap (λ (h : State). overwrite (wordsOfAll (five h)) marks) h)
     (o .work-on .ensures .0) (o .work-on .ensures .1 .0) (o .work-on .ensures .1 .1)
+    ∙ build-done (a .code) (now (a .sheet)) (a .n) marks (now (a .out)) (e .before .build .ensures) (e .if1 .left)
 
 pub build-spec : {M : Type 1} → statement M
 build-spec =
     tie.close
-    (tie.spec (λ c κs. tt) returns (λ c κs. tt) (λ c κs. tt) (λ c κs. tt) work-on-requires (λ c. search needs) (λ c. search needs)
+    (tie.spec (λ c κs. tt) (λ c. search needs) returns (λ c κs. tt) (λ c κs. tt) (λ c κs. tt) work-on-requires (λ c. search needs) (λ c. search needs) (λ c. search needs)
     returns-2)

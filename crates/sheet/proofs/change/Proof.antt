@@ -1,42 +1,50 @@
--- `sheet::change` meets its contract: refused by its other arguments, or a save.
+-- `sheet::change` meets its contract: judged, and then a save of one record.
 -- Assumes nothing.
+use mathlib.Core.Path.{_≡_, sym, _∙_}
+use native.Mathlib.Omega.{arith}
+use lib.ListN.{length}
 use denote.Ref.{now}
 use borrow.Author.Needs.{needs}
-use Rattle.sheet_definition.specs.Run.{World, Call, call, claimOf, outOf, placeOf, countOf, refusalsOf}
-use Rattle.sheet_definition.specs.Run.Call.{Change}
-use Rattle.sheet_definition.proofs.Saves.{recordOf}
-use Rattle.sheet_definition.proofs.Answers.{refused-first}
+use Rattle.sheet_definition.specs.Sheet.{World, recordBytes}
+use Rattle.sheet_definition.specs.SheetCalls.{Call, refusalsOf, oneRecord, editOf, saveOf}
+use Rattle.sheet_definition.specs.SheetCalls.Kind.{Change}
+use Rattle.sheet_definition.proofs.Edits.{recordOf, record-size}
+use Rattle.sheet_marks.specs.Total.{cleared}
+use Rattle.sheet_marks.proofs.Total.{cleared-none}
 use Rattle.sheet.proofs.Saved.{judged, saved}
 use Rattle.sheet.proofs.change.Statement.{statement}
 use Rattle.sheet.proofs.change.Tie as tie
 
--- the sheet as it was lent, and the call
+-- the entry, from the judge; the sheet as it was lent, and the call
+abbrev entered : tie.After-change → tie.Start
+entered j = j .before .before .before .before .before .before
+
 abbrev lent : tie.After-change → World
-lent j =
-    let a = j .before .before .before .before .before .before .args in
-    record { code = a .code; n = a .n; sheet = now (a .sheet); marks = now (a .marks) }
+lent j = let a = entered j .args in record { code = a .code; n = a .n; sheet = now (a .sheet); marks = now (a .marks) }
 
 abbrev asked : tie.After-change → Call
-asked j =
-    let a = j .before .before .before .before .before .before .args in
-    Change (a .place) (now (a .«record»)) (now (a .claim)) (now (a .out))
+asked j = let a = entered j .args in record { kind = Change (a .place) (now (a .«record»)); claim = now (a .claim); out = now (a .out) }
 
-returns : tie.Need-returns
-unfolding call refusalsOf outOf
-returns c = refused-first (lent (c .before)) (asked (c .before)) _ (c .before .change .ensures) (c .if1 .taken)
+-- the record has its size, and the edit is the call's
+one : (j : tie.After-change) → j .change .result ≡ 0 → let a = entered j .args in
+    (length (now (a .«record»)) ≡ recordBytes) × (oneRecord (lent j) (a .place) (now (a .«record»)) (a .n) (cleared (a .n) (a .n) (now (a .marks))) ≡ editOf (lent j) (asked j .kind))
+unfolding saveOf refusalsOf recordOf editOf
+one j z =
+    let a = entered j .args in
+    (record-size (lent j) (asked j) (asked j .kind) (sym (j .change .ensures) ∙ z), rw (cleared-none (a .n) (a .n) (now (a .marks)) (omega arith)))
 
 save-requires : tie.Need-save-requires
-unfolding refusalsOf claimOf outOf placeOf countOf recordOf
+unfolding saveOf refusalsOf
 save-requires c κs =
-    let e = c .before .before .before in
-    judged (lent (e .before)) (asked (e .before)) (e .before .change .ensures) (e .if1 .left)
+    let j = c .before .before .before in
+    judged (lent j) (asked j) _ _ _ (j .change .ensures) (one j)
 
-returns-2 : tie.Need-returns-2
-unfolding call refusalsOf claimOf outOf placeOf countOf recordOf
-returns-2 c =
+returns : tie.Need-returns
+unfolding saveOf refusalsOf
+returns c =
     let s = c .before .before .before .before .before .before in
-    let e = s .before .before .before .before in
-    saved (lent (e .before)) (asked (e .before)) (e .before .change .ensures) (e .if1 .left) (s .save .ensures)
+    let j = s .before .before .before .before in
+    saved (lent j) (asked j) _ _ _ (j .change .ensures) (one j) (s .save .ensures)
 
 pub change-spec : {M : Type 1} → statement M
-change-spec = tie.close (tie.spec (λ c κs. tt) returns save-requires (λ c. search needs) (λ c. search needs) (λ c. search needs) returns-2)
+change-spec = tie.close (tie.spec (λ c κs. tt) save-requires (λ c. search needs) (λ c. search needs) (λ c. search needs) returns)

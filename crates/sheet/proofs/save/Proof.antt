@@ -1,43 +1,70 @@
--- `sheet::save` meets its contract: stale, or put together from the edit and the work.
+-- `sheet::save` meets its contract: turned away, or put together from the edit and the work.
 -- Assumes nothing.
-use mathlib.Core.Path.{ap, _∙_}
+use mathlib.Core.Path.{_≡_, refl, sym, ap, _∙_}
+use Prim.Native.Nat.{ℕ}
 use native.Mathlib.Omega.{arith}
 use denote.Ref.{now}
 use borrow.Author.Needs.{needs}
 use lib.ListN.{length}
-use Rattle.sheet_definition.specs.Sheet.{q}
+use Rattle.definition.specs.Refusal.{pick, firstOf}
+use Rattle.sheet_definition.specs.Sheet.{World, q}
+use Rattle.sheet_definition.specs.Save.{refusedWith, Save, checked, saveOutcome}
+use Rattle.sheet_definition.proofs.Outcomes.{accepted}
 use Rattle.bytes.proofs.Total.{write-at, length-writeAt}
 use Rattle.sheet_marks.specs.Total.{cleared}
-use Rattle.sheet.proofs.Saved.{few-rounds, turned-away, put-together}
+use Rattle.sheet_work.proofs.Admission.{turned-away, goes-on}
+use Rattle.sheet.specs.Save.{Judged, recordSave}
+use Rattle.sheet.proofs.Saved.{few-rounds, put-together}
 use Rattle.sheet.proofs.save.Statement.{statement}
 use Rattle.sheet.proofs.save.Tie as tie
 
--- the entry, from the check
-abbrev entered : tie.After-check → tie.Start
+-- the entry, from the admission; the sheet as it was lent, and the save
+abbrev entered : tie.After-admit → tie.Start
 entered k = k .before .before .before .before .before .before .before .before
 
+abbrev lent : tie.After-admit → World
+lent k = let a = entered k .args in record { code = a .code; n = a .n; sheet = now (a .sheet); marks = now (a .marks) }
+
+abbrev asked : tie.After-admit → Save
+asked k = let a = entered k .args in recordSave (a .number) (lent k) (a .place) (now (a .«record»)) (a .count) (now (a .claim)) (now (a .out))
+
 returns : tie.Need-returns
+unfolding refusedWith firstOf pick
 returns c =
-    let k = c .before .before .before in
-    let a = entered k .args in
-    let d = k .check .ensures in
-    rw (d .1)
-    (turned-away (a .code) (a .n) (now (a .sheet)) (now (a .marks)) (now (a .claim)) _ (d .0) (a .place) (a .count) (now (a .«record»)) (now (a .out)) (c .if1 .taken))
+    let t = c .before in
+    let k = t .before .before .before .before in
+    let d = k .admit .ensures in
+    rw (d .1) (turned-away (lent k) (asked k) refl refl (d .0) (t .if1 .taken))
+
+-- it goes on: after which rounds, to which outcome, and with arguments as they should be
+abbrev admitted : tie.Else1 → tie.After-admit
+admitted c = c .before .before .before .before
+
+goes : (c : tie.Else1) → let k = admitted c in
+    (entered k .args .number ≡ 0)
+    × ((k .admit .result .rounds ≡ checked (lent k) .rounds) × (accepted (lent k) (asked k) ≡ saveOutcome (lent k) (asked k)))
+unfolding firstOf pick
+goes c =
+    let k = admitted c in
+    goes-on (lent k) (asked k) refl refl (k .admit .ensures .0) (c .if1 .left)
+
+valid : (c : tie.Else1) → let a = entered (admitted c) .args in
+    Judged (a .code) (length (now (a .sheet))) (a .n) (length (now (a .marks))) (a .place) (length (now (a .«record»))) (a .count) (length (now (a .claim))) (length (now (a .out)))
+valid c = entered (admitted c) .pre (goes c .0)
 
 work-on-requires : tie.Need-work-on-requires
 unfolding q
 work-on-requires c κs =
     let m = c .before .before .before .before .before in
     let p = m .before .before .before .before in
-    let k = p .before .before .before .before .before in
-    let a = entered k .args in
-    let j = entered k .pre in
-    let d = k .check .ensures in (
+    let e = p .before .before in
+    let k = admitted e in
+    let j = valid e in (
       j .new-few,
       omega (arith, j .new-sheet-room, ap length (p .put-bytes .ensures) ∙ length-writeAt _ _ _),
-      omega (arith, j .new-marks-room, ap length (d .1), m .clear .kept .0),
+      omega (arith, j .new-marks-room, ap length (k .admit .ensures .1), m .clear .kept .0),
       omega (arith, j .in-groups),
-      omega (arith, few-rounds (a .code) (a .n) (now (a .sheet)) (now (a .marks)) (now (a .claim)) _ (d .0) (j .sheet-room)),
+      rw (goes e .1 .0) (few-rounds (lent k) (j .sheet-room)),
       j .out-room,
     )
 
@@ -48,19 +75,20 @@ returns-2 c =
     let m = w .before .before .before .before .before .before in
     let p = m .before .before .before .before in
     let e = p .before .before in
-    let k = e .before .before .before in
+    let k = admitted e in
     let a = entered k .args in
-    let j = entered k .pre in
-    let d = k .check .ensures in
+    let j = valid e in
+    let g = goes e .1 in
     let o = w .work-on .ensures in
-    put-together (a .code) (a .n) (now (a .sheet)) (now (a .marks)) (now (a .claim)) _ (d .0) (a .place) (a .count) (now (a .«record»)) (now (a .out)) _ _ _ _ _ (e .if1 .left)
+    put-together (lent k) (a .number) (a .place) (a .count) (now (a .«record»)) (now (a .claim)) (now (a .out)) _ _ _ _ _ _ (g .0)
     (p .put-bytes .ensures ∙ write-at _ _ _ (omega (arith, j .record-room, j .size)))
-    (m .clear .ensures ∙ ap (cleared (a .n) (a .count)) (d .1))
+    (m .clear .ensures ∙ ap (cleared (a .n) (a .count)) (k .admit .ensures .1))
     (o .0) (o .1 .0) (o .1 .1)
+    ∙ g .1
 
 pub save-spec : {M : Type 1} → statement M
 save-spec =
     tie.close
-    (tie.spec (λ c κs. let j = c .before .before .before .before .before .before .before .pre in (j .few, j .sheet-room, j .marks-room, j .claim-size))
-    (λ c. search needs) (λ c. search needs) returns (λ c. search needs) (λ c κs. tt) (λ c κs. tt) work-on-requires
-    (λ c. search needs) (λ c. search needs) (λ c. search needs) returns-2)
+    (tie.spec (λ c κs z. let j = c .before .before .before .before .before .before .before .pre z in (j .few, j .sheet-room, j .marks-room, j .claim-size))
+    (λ c. search needs) (λ c. search needs) (λ c. search needs) returns (λ c. omega (arith, valid (c .before) .record-room)) (λ c κs. tt) (λ c κs. tt) work-on-requires
+    (λ c. search needs) (λ c. search needs) (λ c. search needs) (λ c. search needs) returns-2)

@@ -1,29 +1,21 @@
--- `sheet_judge::change` meets its contract: one of the first four refusals, or the tests that led to the return say which is first.
+-- `sheet_judge::change` meets its contract: the refusals of a build, and then its own in turn.
 -- Assumes nothing.
+use mathlib.Core.Path.{refl}
+use mathlib.Core.List.{[], _∷_}
 use native.Mathlib.Omega.{arith}
-use borrow.Author.Tests.{le-leb, lt-leb}
-use Rattle.definition.specs.Refusal.{pick, firstOf}
-use Rattle.sheet_definition.specs.Sheet.{changeRefusals}
-use Rattle.sheet_judge.proofs.Judged.{of-the-four, after-the-four}
+use Rattle.sheet_definition.specs.Refusals.{placeRefusal, buildRefusals, changeRefusals}
+use Rattle.definition.proofs.Refusals.{judged}
+use Rattle.sheet_definition.proofs.Refused.{built-numbered}
 use Rattle.sheet_judge.proofs.change.Statement.{statement}
 use Rattle.sheet_judge.proofs.change.Tie as tie
 
 returns : tie.Need-returns
-unfolding changeRefusals
-returns c = of-the-four _ _ _ _ _ _ (c .before .build .ensures) (c .if1 .taken)
-
-returns-2 : tie.Need-returns-2
-unfolding changeRefusals
-returns-2 c =
-    let a = c .before .before .before .args in
-    after-the-four _ _ _ _ _ _ (c .before .before .build .ensures) (c .before .if1 .left) (unfold firstOf pick in rw (le-leb (a .n) (a .place) (omega arith)))
-
-returns-3 : tie.Need-returns-3
-unfolding changeRefusals
-returns-3 c =
-    let e = c .before .before in
-    let a = e .before .before .args in
-    after-the-four _ _ _ _ _ _ (e .before .build .ensures) (e .if1 .left) (unfold firstOf pick in rw (lt-leb (a .n) (a .place) (omega arith)) (c .sized .ensures))
+unfolding changeRefusals placeRefusal
+returns c =
+    let b = c .before in
+    let o = b .before in
+    judged (buildRefusals _) _ (built-numbered _) (c .first .ensures) (b .build .ensures)
+    (judged (_ ∷ []) _ (omega arith) (o .sized .ensures) (o .before .has-place .ensures) refl)
 
 pub change-spec : {M : Type 1} → statement M
-change-spec = tie.close (tie.spec (λ c κs. tt) returns returns-2 (λ c κs. tt) returns-3)
+change-spec = tie.close (tie.spec (λ c κs. tt) (λ c κs. tt) (λ c κs. tt) (λ c κs. tt) returns)

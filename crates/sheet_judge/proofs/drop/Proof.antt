@@ -1,29 +1,20 @@
--- `sheet_judge::drop` meets its contract: one of the first four refusals, or the tests that led to the return say which is first.
+-- `sheet_judge::drop` meets its contract: the refusals of a build, and then its own in turn.
 -- Assumes nothing.
+use mathlib.Core.List.{[], _∷_}
 use native.Mathlib.Omega.{arith}
-use borrow.Author.Tests.{eq-eqb, ne-eqb}
-use Rattle.definition.specs.Refusal.{pick, firstOf}
-use Rattle.sheet_definition.specs.Sheet.{dropRefusals, sizeRefusal}
-use Rattle.sheet_judge.proofs.Judged.{of-the-four, after-the-four}
+use Rattle.sheet_definition.specs.Refusals.{placeRefusal, buildRefusals, dropRefusals}
+use Rattle.definition.proofs.Refusals.{judged}
+use Rattle.sheet_definition.proofs.Refused.{built-numbered}
 use Rattle.sheet_judge.proofs.drop.Statement.{statement}
 use Rattle.sheet_judge.proofs.drop.Tie as tie
 
 returns : tie.Need-returns
-unfolding dropRefusals
-returns c = of-the-four _ _ _ _ _ _ (c .before .build .ensures) (c .if1 .taken)
-
-returns-2 : tie.Need-returns-2
-unfolding dropRefusals
-returns-2 c =
-    let a = c .before .before .before .args in
-    after-the-four _ _ _ _ _ _ (c .before .before .build .ensures) (c .before .if1 .left) (unfold firstOf pick in rw (eq-eqb (a .n) 0 (omega arith)))
-
-returns-3 : tie.Need-returns-3
-unfolding dropRefusals
-returns-3 c =
-    let e = c .before .before in
-    let a = e .before .before .args in
-    after-the-four _ _ _ _ _ _ (e .before .build .ensures) (e .if1 .left) (unfold firstOf pick sizeRefusal in rw (ne-eqb (a .n) 0 (λ e. omega arith)) (c .sized .ensures))
+unfolding dropRefusals placeRefusal
+returns c =
+    let b = c .before in
+    let o = b .before in
+    judged (buildRefusals _) _ (built-numbered _) (c .first2 .ensures) (b .build .ensures)
+    (judged (_ ∷ []) _ (omega arith) (o .first .ensures) (o .before .before .has-place .ensures) (o .before .claim-size .ensures))
 
 pub drop-spec : {M : Type 1} → statement M
-drop-spec = tie.close (tie.spec (λ c κs. tt) returns returns-2 (λ c κs. tt) returns-3)
+drop-spec = tie.close (tie.spec (λ c κs. tt) (λ c κs. tt) (λ c κs. tt) (λ c κs. tt) (λ c κs. tt) returns)

@@ -11,7 +11,7 @@ use borrow.Author.Needs.{needs}
 use Rattle.definition.specs.Luffa.{bytesAt}
 use Rattle.definition.specs.Buffer.{same}
 use Rattle.sheet_definition.specs.Sheet.{q}
-use Rattle.sheet_definition.specs.SheetCalls.{checked, stale}
+use Rattle.sheet_definition.specs.Save.{checked, staleClaim}
 use Rattle.definition.proofs.Codes.{words-le}
 use Rattle.sheet_work.proofs.Claims.{in-front, compared}
 use Rattle.sheet_work.proofs.Groups.{check-leaves}
@@ -35,7 +35,7 @@ differs-requires c κs =
     in-front (a .code) (a .n) _ (now (a .sheet)) (now (a .marks)) (now (a .claim)) _ _ (entered k .pre .3) (k .work-on .ensures .1 .1)
 
 returns : tie.Need-returns
-unfolding checked stale q
+unfolding checked staleClaim q
 returns c =
     let k = c .before .before .before .before .before in
     let a = entered k .args in

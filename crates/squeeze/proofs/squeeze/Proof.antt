@@ -10,7 +10,7 @@ use lib.ListN.{length}
 use Rattle.definition.specs.Word.{bytesOfAll}
 use Rattle.definition.specs.Counted.{countedChain}
 use Rattle.definition.specs.Buffer.{overwrite}
-use Rattle.definition.proofs.Buffer.{overwrite-none}
+use Rattle.definition.proofs.Buffer.{overwriteAt-none}
 use Rattle.squeeze.specs.declared.Squeezed.{Squeezed}
 use Rattle.squeeze.specs.Squeeze.{turned, begun, squeezed, wordsTo}
 use Rattle.squeeze.proofs.Words.{rounds-after, words-final, put-more, put-length}
@@ -26,7 +26,7 @@ abbrev μ-loop : tie.MeasureT-loop
 
 loop-holds : tie.Need-loop-holds Inv-loop μ-loop
 unfolding squeezed wordsTo bytesOfAll
-loop-holds c = (omega arith, (omega arith, omega arith), refl, sym (overwrite-none _))
+loop-holds c = (omega arith, (omega arith, omega arith), refl, sym (overwriteAt-none 0 _ (omega arith)))
 
 mul-put-word : tie.Need-mul-put-word Inv-loop μ-loop
 mul-put-word c = omega arith

@@ -1,0 +1,183 @@
+-- Each kind of save is proper, and makes of the plain list of records what document 01 says.
+-- Assumes nothing.
+use mathlib.Core.Path.{_≡_, refl, sym, ap, _∙_}
+use mathlib.Core.List.{List, [], _∷_, append-nil}
+use Prim.Native.Nat.{ℕ, _+_, _-_, _*_, _<_, _≤_}
+use native.Mathlib.Decide.{ℕ-discrete}
+use native.Mathlib.Omega.{arith}
+use lib.ListN.{length, take, drop, replicate, length-append, length-set, length-replicate}
+use lib.Seq.{length-take-le, take-take}
+use borrow.Author.Tests.{eq-eqb, ne-eqb}
+use Rattle.definition.specs.Luffa.{bytesAt}
+use Rattle.definition.specs.Buffer.{Every, overwriteAt, joined}
+use Rattle.definition.specs.Refusal.{Refusal, PLACE, FULL, SIZE, CLAIM, pick, firstOf, conditionOf, widthRefusal, outRefusal}
+use Rattle.sheet_definition.specs.Sheet.{World, most, recordBytes, markWords, q, r}
+use Rattle.sheet_definition.specs.Refusals.{lengthsOf, sheetRefusal, marksRefusal, placeRefusal, fullRefusal, sizeRefusal, claimRefusal, buildRefusals, changeRefusals, appendRefusals, dropRefusals}
+use Rattle.sheet_definition.specs.Marks.{held, markAt}
+use Rattle.sheet_definition.specs.Save.{Edit}
+use Rattle.sheet_definition.specs.SheetCalls.{Kind, Call, refusalsOf, oneRecord, withoutLast, editOf, saveOf}
+use Rattle.sheet_definition.specs.SheetCalls.Kind.{Change, Append, Drop}
+use Rattle.sheet_definition.specs.Run.{listAfter}
+use Rattle.sheet_definition.specs.Said.{Stale, Forty, Stands}
+use Rattle.definition.proofs.Every.{every-take, every-append, every-set}
+use Rattle.definition.proofs.Buffer.{length-overwriteAt, take-overwriteAt, drop-overwriteAt}
+use Rattle.definition.proofs.Refusals.{Numbered, fails}
+use Rattle.sheet_definition.proofs.Joined.{joined-append, joined-take, joined-set, take-overwritten, take-added}
+use Rattle.sheet_definition.proofs.Writes.{Rewritten}
+use Rattle.sheet_definition.proofs.Refused.{Fits, fits, place-held, one-more, record-sized, claim-sized}
+use Rattle.sheet_definition.proofs.Fair.{Fair, Proper, read-written, one-fair}
+
+-- "When r = 0 it zeroes mark q.", and else none
+pub zeroes : (n : ℕ) (marks : List ℕ) → r n ≡ 0 → withoutLast n marks ≡ overwriteAt (markWords * q n) (replicate markWords 0) marks
+unfolding withoutLast pick
+zeroes n marks e = rw (eq-eqb (r n) 0 e)
+
+pub zeroes-none : (n : ℕ) (marks : List ℕ) → (r n ≡ 0 → ⊥) → withoutLast n marks ≡ marks
+unfolding withoutLast pick
+zeroes-none n marks e = rw (ne-eqb (r n) 0 e)
+
+-- so the marks up to that of the last record's group stay, and those past the new last are zero
+without-last : (n : ℕ) (marks : List ℕ) → 0 < n → markWords * (q n + 1) ≤ length marks
+    → Rewritten n (q (n - 1)) (withoutLast n marks) marks
+    × ((m : ℕ) → q (n - 1) < m → m ≤ q n → markAt (withoutLast n marks) m ≡ replicate markWords 0)
+unfolding q r markAt
+without-last n marks h l =
+    let z : List ℕ = replicate markWords 0 in
+    let s : length z ≡ markWords = length-replicate {A = ℕ} markWords 0 in
+    let i : ℕ = markWords * q n in
+    elim (ℕ-discrete (r n) 0) [
+      | yes e ↦ rw (zeroes n marks e) (
+        record {
+          size = length-overwriteAt i z marks (omega arith);
+          front = take-overwriteAt i (markWords * (q (n - 1) + 1)) z marks (omega arith) (omega arith);
+          back = λ d f. drop-overwriteAt i (markWords * (d + 1)) z marks (omega arith) (omega arith);
+        },
+        λ m f g. let j : m ≡ q n = omega arith in rw j (read-written i markWords z marks s (omega arith)),
+      )
+      | no e ↦ rw (zeroes-none n marks e) (search, λ m f g. absurd (omega arith))
+    ]
+
+-- every save's refusals begin with those of a build and end with the claim's length
+module _ (w : World) (c : Call) where
+  abbrev refusals : Kind → List Refusal
+  refusals k = refusalsOf (lengthsOf w (c .out)) (length (c .claim)) k
+
+  pub numbered : (k : Kind) → Numbered (refusals k)
+  unfolding refusalsOf changeRefusals appendRefusals dropRefusals buildRefusals widthRefusal outRefusal sheetRefusal marksRefusal placeRefusal fullRefusal sizeRefusal claimRefusal
+  numbered (Change place x) = omega arith
+  numbered (Append x) = omega arith
+  numbered Drop = omega arith
+
+  earlier : (k : Kind) → Every (λ x. Stale (x .0) → ⊥) (refusals k)
+  unfolding refusalsOf changeRefusals appendRefusals dropRefusals buildRefusals widthRefusal outRefusal sheetRefusal marksRefusal placeRefusal fullRefusal sizeRefusal claimRefusal
+  earlier (Change place x) = omega arith
+  earlier (Append x) = omega arith
+  earlier Drop = omega arith
+
+  pub room : (k : Kind) → firstOf (refusals k) ≡ 0 → Fits w (c .out)
+  unfolding refusalsOf changeRefusals appendRefusals dropRefusals
+  room (Change place x) e = fits w (c .out) _ (numbered (Change place x)) e
+  room (Append x) e = fits w (c .out) _ (numbered (Append x)) e
+  room Drop e = fits w (c .out) _ (numbered Drop) e
+
+  claimed : (k : Kind) → conditionOf CLAIM (refusals k) ≡ claimRefusal (bytesAt (w .code)) (length (c .claim)) .1
+  unfolding refusalsOf changeRefusals appendRefusals dropRefusals buildRefusals conditionOf pick widthRefusal outRefusal sheetRefusal marksRefusal placeRefusal fullRefusal sizeRefusal claimRefusal
+  claimed (Change place x) = refl
+  claimed (Append x) = refl
+  claimed Drop = refl
+
+  -- the record that a save writes has its size
+  unfoldable pub recordOf : Kind → List ℕ
+  recordOf (Change place x) = x
+  recordOf (Append x) = x
+  recordOf Drop = replicate recordBytes 0
+
+  pub record-size : (k : Kind) → firstOf (refusals k) ≡ 0 → length (recordOf k) ≡ recordBytes
+  unfolding recordOf refusalsOf changeRefusals appendRefusals buildRefusals conditionOf pick widthRefusal outRefusal sheetRefusal marksRefusal placeRefusal fullRefusal sizeRefusal
+  record-size (Change place x) e = record-sized (length x) (fails (refusals (Change place x)) (numbered (Change place x)) e SIZE)
+  record-size (Append x) e = record-sized (length x) (fails (refusals (Append x)) (numbered (Append x)) e SIZE)
+  record-size Drop e = length-replicate {A = ℕ} recordBytes 0
+
+  pub fair : (k : Kind) → firstOf (refusals k) ≡ 0 → Fair w (editOf w k)
+  unfolding refusalsOf changeRefusals appendRefusals dropRefusals buildRefusals conditionOf pick widthRefusal outRefusal sheetRefusal marksRefusal placeRefusal fullRefusal sizeRefusal claimRefusal editOf recordOf
+  fair (Change place x) e =
+      let none = fails (refusals (Change place x)) (numbered (Change place x)) e in
+      let f : Fits w (c .out) = room (Change place x) e in
+      let h : place < w .n = place-held (w .n) place (none PLACE) in
+      one-fair w place x (w .n) (w .marks) (record-size (Change place x) e) (omega arith) (omega arith) (omega arith) (omega (arith, f .sheet-room))
+      (f .count) (f .sheet-room) (f .marks-room) (search) (λ k i j. absurd (omega arith)) (λ m i j. absurd (omega arith))
+  fair (Append x) e =
+      let none = fails (refusals (Append x)) (numbered (Append x)) e in
+      let f : Fits w (c .out) = room (Append x) e in
+      let h = one-more (w .n) (length (w .sheet)) (length (w .marks)) (none FULL) in
+      one-fair w (w .n) x (w .n + 1) (w .marks) (record-size (Append x) e) (omega arith) (omega arith) (omega arith) (h .1)
+      (omega (arith, f .count, h .0)) (h .1) (h .2) (search) (λ k i j. absurd (omega arith)) (λ m i j. unfold q in absurd (omega arith))
+  fair Drop e =
+      let none = fails (refusals Drop) (numbered Drop) e in
+      let f : Fits w (c .out) = room Drop e in
+      let h : 0 < w .n = place-held (w .n) 0 (none PLACE) in
+      let z : List ℕ = replicate recordBytes 0 in
+      let s : length z ≡ recordBytes = record-size Drop e in
+      let m = without-last (w .n) (w .marks) h (f .marks-room) in
+      one-fair w (w .n - 1) z (w .n - 1) (withoutLast (w .n) (w .marks)) s (omega arith) (omega arith) (omega arith) (omega (arith, f .sheet-room))
+      (omega (arith, f .count)) (omega (arith, f .sheet-room)) (unfold q in omega (arith, f .marks-room)) (m .0)
+      (λ k i j. let n : k ≡ w .n - 1 = omega arith in rw n (read-written (recordBytes * (w .n - 1)) recordBytes z (w .sheet) s (omega (arith, f .sheet-room))))
+      (m .1)
+
+  pub proper : Proper w (saveOf w c)
+  unfolding saveOf
+  proper =
+      record {
+        numbered = numbered (c .kind);
+        earlier = earlier (c .kind);
+        answered = refl;
+        room = room (c .kind);
+        claim-size = λ e. claim-sized (bytesAt (w .code)) (length (c .claim)) (sym (claimed (c .kind)) ∙ fails (refusals (c .kind)) (numbered (c .kind)) e CLAIM);
+        fair = fair (c .kind);
+      }
+
+  -- what a save that is done leaves are records of 40 bytes, as many as the new count, and those that the new sheet holds
+  pub record Listed (e : Edit) (rs : List (List ℕ)) : Type 0 where
+    pub sized : Forty rs
+    pub counted : length rs ≡ e .count
+    pub holds : held (e .count) (e .sheet) ≡ joined rs
+
+  pub listed : (k : Kind) (rs : List (List ℕ)) → Stands w rs → firstOf (refusals k) ≡ 0 → Listed (editOf w k) (listAfter k rs)
+  unfolding refusalsOf changeRefusals appendRefusals buildRefusals conditionOf pick widthRefusal outRefusal sheetRefusal marksRefusal placeRefusal fullRefusal sizeRefusal claimRefusal editOf oneRecord recordOf listAfter held joined
+  listed (Change place x) rs s e =
+      let n : length x ≡ recordBytes = record-size (Change place x) e in
+      let h : place < w .n = place-held (w .n) place (fails (refusals (Change place x)) (numbered (Change place x)) e PLACE) in
+      record {
+        sized = every-set _ rs place x n (s .sized);
+        counted = length-set rs place x ∙ s .counted;
+        holds = rw (
+          take-overwritten (recordBytes * place) (recordBytes * w .n) x (w .sheet) (omega arith) (s .sheet-room),
+          joined-set rs place x n (s .sized) (omega (arith, s .counted)),
+          s .holds,
+        );
+      }
+  listed (Append x) rs s e =
+      let n : length x ≡ recordBytes = record-size (Append x) e in
+      record {
+        sized = every-append _ rs (x ∷ []) (s .sized) (n, tt);
+        counted = omega (arith, length-append rs (x ∷ []), s .counted);
+        holds = rw (
+          take-added (recordBytes * w .n) (recordBytes * (w .n + 1)) x (w .sheet) (omega arith) (s .sheet-room),
+          joined-append rs (x ∷ []),
+          append-nil x,
+          s .holds,
+        );
+      }
+  listed Drop rs s e =
+      let n : length rs - 1 ≡ w .n - 1 = omega (arith, s .counted) in
+      record {
+        sized = every-take _ rs (length rs - 1) (s .sized);
+        counted = length-take-le (length rs - 1) rs (omega arith) ∙ n;
+        holds = rw (
+          take-overwriteAt (recordBytes * (w .n - 1)) (recordBytes * (w .n - 1)) (replicate recordBytes 0) (w .sheet) (omega arith) (omega (arith, s .sheet-room)),
+          joined-take rs (length rs - 1) (s .sized),
+          ← s .holds,
+          take-take (recordBytes * (length rs - 1)) (recordBytes * w .n) (w .sheet) (omega (arith, s .counted)),
+          n,
+        );
+      }

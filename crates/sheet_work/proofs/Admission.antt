@@ -1,0 +1,38 @@
+-- A save from what it comes to before it writes: turned away, or to go on; one law for every kind of save.
+-- Assumes nothing.
+use mathlib.Core.Path.{_≡_, refl, sym, ap, _∙_}
+use mathlib.Core.Bool.{Bool, true, false}
+use mathlib.Core.List.{List, [], _∷_}
+use Prim.Native.Nat.{ℕ, zero, suc}
+use native.Mathlib.Omega.{arith}
+use Rattle.definition.specs.Refusal.{STALE, pick, firstOf, whenDone}
+use Rattle.sheet_definition.specs.Sheet.{World}
+use Rattle.sheet_definition.specs.Save.{SheetOutcome, refusedWith, Save, checked, staleClaim, saveOutcome}
+use Rattle.sheet_definition.proofs.Outcomes.{accepted, refused-is, stale-is, done-is}
+use Rattle.sheet_work.specs.declared.Admitted.{Admitted}
+use Rattle.sheet_work.specs.Admission.{admission}
+
+-- by the number k of its arguments, where 11 answers a stale claim
+module _ (w : World) (s : Save) (number : s .staleNumber ≡ STALE) {k : ℕ} (e : k ≡ firstOf (s .refusals)) {a : Admitted} (d : a ≡ admission k w (s .claim)) where
+  -- what holds of each way holds
+  by-way : (P : Admitted → Type 0) → ((k ≡ 0 → ⊥) → P (record { number = k; rounds = 0 }))
+      → (k ≡ 0 → staleClaim w (s .claim) ≡ true → P (record { number = STALE; rounds = checked w .rounds }))
+      → (k ≡ 0 → staleClaim w (s .claim) ≡ false → P (record { number = 0; rounds = checked w .rounds })) → P a
+  unfolding admission whenDone firstOf pick
+  by-way P x y z = go k refl (staleClaim w (s .claim)) refl
+    where
+      go : (j : ℕ) → k ≡ j → (b : Bool) → staleClaim w (s .claim) ≡ b → P a
+      go (suc j) f b g = rw (d, f) (rw f at x (λ h. absurd (omega arith)))
+      go zero f true g = rw (d, f, g) (y f g)
+      go zero f false g = rw (d, f, g) (z f g)
+
+  -- a number other than 0, and 0
+  pub turned-away : (a .number ≡ 0 → ⊥) → refusedWith w (s .out) (a .number) (a .rounds) ≡ saveOutcome w s
+  turned-away =
+      by-way (λ a. (a .number ≡ 0 → ⊥) → refusedWith w (s .out) (a .number) (a .rounds) ≡ saveOutcome w s)
+      (λ h i. refused-is w s e h) (λ z t i. ap (λ (j : ℕ). refusedWith w (s .out) j (checked w .rounds)) (sym number) ∙ stale-is w s e z t) (λ z t i. absurd (i refl))
+
+  pub goes-on : a .number ≡ 0 → (k ≡ 0) × ((a .rounds ≡ checked w .rounds) × (accepted w s ≡ saveOutcome w s))
+  goes-on =
+      by-way (λ a. a .number ≡ 0 → (k ≡ 0) × ((a .rounds ≡ checked w .rounds) × (accepted w s ≡ saveOutcome w s)))
+      (λ h i. absurd (h i)) (λ z t i. absurd (omega arith)) (λ z t i. (z, (refl, done-is w s e z t)))
