@@ -2,7 +2,7 @@
 // and the words of a state (source, 2.2 and 3.2).
 ghost use mathlib.Core.Path.{_≡_};
 ghost use Rattle.definition.specs.Block.{zeroBlock, _⊕_, wordsOfAll};
-ghost use Rattle.definition.specs.Start.{blockCount};
+ghost use Rattle.definition.specs.Width.{blockCount};
 ghost use Rattle.definition.specs.State.{five, blocksIn, stateOf};
 use definition::Block;
 use definition::State;

@@ -1,6 +1,7 @@
 // The four codes: 1 = 224 bits, 2 = 256, 3 = 384, 4 = 512 (source, Tables 2 and 3; document 01).
 ghost use mathlib.Core.Path.{_≡_};
-ghost use Rattle.definition.specs.Luffa.{widthAt, wordsAt};
+ghost use Rattle.definition.specs.Width.{widthAt};
+ghost use Rattle.definition.specs.Luffa.{wordsAt};
 ghost use Rattle.definition.specs.Refusal.{known as knownOf};
 use definition::Width;
 

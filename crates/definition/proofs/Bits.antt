@@ -2,15 +2,16 @@
 -- Assumes nothing.
 use mathlib.Core.Path.{_≡_, refl, sym, ap, ap₂, _∙_}
 use mathlib.Core.List.{List, [], _∷_, map}
-use Prim.Native.Nat.{ℕ, zero, suc, _+_, _-_, _*_, _/_, _%_, _^_, _<_}
-use native.Mathlib.Nat.{mod-lt, mod-eq-of-lt, zero-lt-suc, mod-one, zero-div}
+use Prim.Native.Nat.{ℕ, zero, suc, _+_, _-_, _*_, _/_, _%_, _^_, _<_, _≤_}
+use native.Mathlib.Nat.{mod-lt, mod-eq-of-lt, zero-lt-suc, mod-one, zero-div, div-eq-of-lt, mul-mod-left, mul-le-mul-right, pow-suc}
+use native.Mathlib.Decide.{decLt}
 use native.Mathlib.Numerals.{one-add}
 use native.Mathlib.Omega.{arith}
-use lib.Bits.{bitXor, bitAnd, bitOr, xor-shr, xor-mod, and-shr, and-mod, or-shr, or-mod, xor-add-and, and-mask}
+use lib.Bits.{bitXor, bitAnd, bitOr, xor-shr, xor-mod, xor-block, and-shr, and-mod, or-shr, or-mod, or-zero-r, xor-add-and, and-mask}
 use lib.Dec.{lit<}
-use lib.Pow.{mod-pow-add, ones-split, ones-lt, high, low}
+use lib.Pow.{pow-pos, mod-pow-add, ones-split, ones-lt, high, low, shr-shr, shl-shr, field, mod-mod-pow}
 use lib.ListN.{length}
-use Rattle.definition.specs.Word.{bit, fromBits}
+use Rattle.definition.specs.Word.{bit, fromBits, rotl}
 use Rattle.definition.proofs.Cases.{Bits, none, more}
 
 pub bit-lt : (l a : ℕ) → bit l a < 2
@@ -45,6 +46,20 @@ fromBits-cong zero f g h = refl
 fromBits-cong (suc n) f g h =
     ap₂ (λ (x y : ℕ). x * 2 ^ n + y) (h n (omega arith)) (fromBits-cong n f g (λ l k. h l (omega arith)))
 
+-- n bits make a number of n bits, and XOR works at each bit
+pub fromBits-lt : (n : ℕ) (f : ℕ → ℕ) → ((l : ℕ) → f l < 2) → fromBits n f < 2 ^ n
+unfolding fromBits
+fromBits-lt zero f h = pow-pos 0
+fromBits-lt (suc n) f h =
+    omega (arith, fromBits-lt n f h, mul-le-mul-right {m = f n} {n = 1} (2 ^ n) (omega (arith, h n)), pow-suc 2 n)
+
+pub fromBits-xor : (n : ℕ) (f g : ℕ → ℕ) → ((l : ℕ) → f l < 2) → ((l : ℕ) → g l < 2)
+    → fromBits n (λ l. bitXor (f l) (g l)) ≡ bitXor (fromBits n f) (fromBits n g)
+unfolding fromBits
+fromBits-xor zero f g hf hg = refl
+fromBits-xor (suc n) f g hf hg =
+    rw (fromBits-xor n f g hf hg) (sym (xor-block n (f n) (g n) _ _ (fromBits-lt n f hf) (fromBits-lt n g hg)))
+
 -- a word whose bits are f's is the word put together from f
 pub from-its-bits : (n a : ℕ) (f : ℕ → ℕ) → a < 2 ^ n → ((l : ℕ) → l < n → bit l a ≡ f l) → a ≡ fromBits n f
 from-its-bits n a f h e =
@@ -72,3 +87,39 @@ bits-at l (a ∷ ws) = more (bit-lt l a) (bits-at l ws)
 pub bit-zero : (l : ℕ) → bit l 0 ≡ 0
 unfolding bit
 bit-zero l = rw zero-div
+
+-- the bits of the lowest n bits, of a shift to the right and of one to the left
+bit-mod : (n l a : ℕ) → l < n → bit l (a % 2 ^ n) ≡ bit l a
+unfolding bit
+bit-mod n l a h =
+    let e : n - l - 1 + 1 + l ≡ n = omega arith in
+    rw (rw e at (field a (n - l - 1 + 1) l)) (mod-mod-pow (a / 2 ^ l) (n - l - 1) 1)
+
+bit-shr : (k l a : ℕ) → bit l (a / 2 ^ k) ≡ bit (k + l) a
+unfolding bit
+bit-shr k l a = rw shr-shr
+
+pub bit-shl : (k l a : ℕ) → bit (k + l) (a * 2 ^ k) ≡ bit l a
+bit-shl k l a = sym (bit-shr k l (a * 2 ^ k)) ∙ ap (bit l) (shl-shr a k)
+
+bit-below : (k l a : ℕ) → l < k → bit l (a * 2 ^ k) ≡ 0
+bit-below k l a h = sym (bit-mod k l (a * 2 ^ k) h) ∙ rw (mul-mod-left a (2 ^ k)) (bit-zero l)
+
+pub bit-above : (k l a : ℕ) → a < 2 ^ k → bit (k + l) a ≡ 0
+bit-above k l a h = sym (bit-shr k l a) ∙ rw (div-eq-of-lt h) (bit-zero l)
+
+-- 4.5: bit l of a word rotated left by n is its bit l - n mod 32
+pub bit-rotl : (n l a : ℕ) → n ≤ 32 → l < 32 → a < 2 ^ 32 → bit l (rotl n a) ≡ bit ((l + 32 - n) % 32) a
+unfolding rotl
+bit-rotl n l a hn hl ha =
+    rw (bit-or, bit-mod 32 l (a * 2 ^ n) hl, bit-shr (32 - n) l a)
+    (elim (decLt l n) [
+      | yes p ↦
+          let e : (l + 32 - n) % 32 ≡ 32 - n + l = omega arith in
+          rw (bit-below n l a p, e)
+      | no p ↦
+          let e : (l + 32 - n) % 32 ≡ l - n = omega arith in
+          let d : 32 - n + l ≡ 32 + (l - n) = omega arith in
+          let f : n + (l - n) ≡ l = omega arith in
+          rw (d, bit-above 32 (l - n) a ha, rw f at (bit-shl n (l - n) a), e) (or-zero-r (bit (l - n) a))
+    ])

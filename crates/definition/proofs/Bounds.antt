@@ -2,7 +2,7 @@
 -- Assumes nothing.
 use mathlib.Core.List.{List, [], _∷_}
 use Prim.Native.Nat.{ℕ, zero, suc, _+_, _-_, _*_, _/_, _%_, _^_, _<_, _≤_}
-use native.Mathlib.Nat.{mod-lt, lt-of-le-of-lt, mul-le-mul-right, pow-suc}
+use native.Mathlib.Nat.{mod-lt, lt-of-le-of-lt}
 use native.Mathlib.Omega.{arith}
 use lib.Bits.{bitXor, or-lt, xor-lt}
 use lib.ListN.{length, getD}
@@ -13,17 +13,18 @@ use Rattle.definition.specs.declared.Width.{Width}
 use Rattle.definition.specs.declared.Width.the-variants.{W3, W4, W5}
 use Rattle.definition.specs.Word.{bit, fromBits, rotl}
 use Rattle.definition.specs.Block.{zeroBlock, wordsOf, wordsOfAll}
-use Rattle.definition.specs.SubCrumb.{S, crumb, subWord, subCrumb}
+use Rattle.definition.specs.SubCrumb.{S, sboxInput, subWord, subCrumb}
 use Rattle.definition.specs.MixWord.{mixWord}
 use Rattle.definition.specs.Constant.{constantsFrom, constants}
 use Rattle.definition.specs.Permutation.{subCrumbs, mixWords, addConstant, step, steps, permute}
 use Rattle.definition.specs.Injection.{inject}
 use Rattle.definition.specs.Round.{permuteFrom, round, chain}
-use Rattle.definition.specs.Start.{blockCount, startingVariables, start}
+use Rattle.definition.specs.Width.{blockCount}
+use Rattle.definition.specs.Start.{startingVariables, start}
 use Rattle.definition.specs.State.{five, stateOf}
 use Rattle.definition.specs.Buffer.{Every}
 use Rattle.definition.proofs.Every.{every-at}
-use Rattle.definition.proofs.Bits.{bit-lt}
+use Rattle.definition.proofs.Bits.{bit-lt, fromBits-lt}
 use Rattle.definition.proofs.Chain.{length-inject, count-le}
 use Rattle.definition.proofs.Computed.{everything}
 
@@ -47,13 +48,6 @@ record PairWords (c : Pair) : Type 0 where
   left-word : c .left < 2 ^ 32
   right-word : c .right < 2 ^ 32
 
--- n bits make a number of n bits
-fromBits-lt : (n : ℕ) (f : ℕ → ℕ) → ((l : ℕ) → f l < 2) → fromBits n f < 2 ^ n
-unfolding fromBits
-fromBits-lt zero f h = pow-pos 0
-fromBits-lt (suc n) f h =
-    omega (arith, fromBits-lt n f h, mul-le-mul-right {m = f n} {n = 1} (2 ^ n) (omega (arith, h n)), pow-suc 2 n)
-
 -- a word rotated is a word
 rotl-lt : (n a : ℕ) → a < 2 ^ 32 → rotl n a < 2 ^ 32
 unfolding rotl
@@ -63,7 +57,7 @@ rotl-lt n a h =
 -- SubCrumb gives words, whatever it is given
 subWord-lt : (k a0 a1 a2 a3 : ℕ) → subWord k a0 a1 a2 a3 < 2 ^ 32
 unfolding subWord
-subWord-lt k a0 a1 a2 a3 = fromBits-lt 32 (λ l. bit k (S (crumb a0 a1 a2 a3 l))) (λ l. bit-lt k (S (crumb a0 a1 a2 a3 l)))
+subWord-lt k a0 a1 a2 a3 = fromBits-lt 32 (λ l. bit k (S (sboxInput a0 a1 a2 a3 l))) (λ l. bit-lt k (S (sboxInput a0 a1 a2 a3 l)))
 
 sub-words : (a : Block) → Words (subCrumbs a)
 unfolding subCrumbs subCrumb

@@ -17,7 +17,8 @@ use Rattle.definition.specs.declared.Width.the-variants.{W3, W4, W5}
 use Rattle.definition.specs.Block.{zeroBlock}
 use Rattle.definition.specs.Injection.{matrix, inject}
 use Rattle.definition.specs.Round.{permuteFrom, round, chain}
-use Rattle.definition.specs.Start.{blockCount, startingVariables, start}
+use Rattle.definition.specs.Width.{blockCount}
+use Rattle.definition.specs.Start.{startingVariables, start}
 use Rattle.definition.specs.State.{five, blocksIn, stateOf}
 use Rattle.definition.specs.Counted.{countedRound, countedChain}
 

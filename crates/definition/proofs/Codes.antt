@@ -5,7 +5,8 @@ use mathlib.Core.List.{[], _∷_}
 use Prim.Native.Nat.{ℕ, zero, suc, _≤_}
 use native.Mathlib.Omega.{arith}
 use Rattle.definition.specs.declared.Width.the-variants.{W3}
-use Rattle.definition.specs.Luffa.{widthAt, wordsAt}
+use Rattle.definition.specs.Width.{widthAt}
+use Rattle.definition.specs.Luffa.{wordsAt}
 use Rattle.definition.proofs.Every.{every-at}
 
 pub width-other : (code : ℕ) → (code ≡ 3 → ⊥) → (code ≡ 4 → ⊥) → widthAt code ≡ W3

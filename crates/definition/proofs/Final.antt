@@ -13,7 +13,7 @@ use Rattle.definition.specs.declared.Width.{Width}
 use Rattle.definition.specs.declared.Width.the-variants.{W3, W4, W5}
 use Rattle.definition.specs.Block.{_⊕_, zeroBlock, xorAll, wordsOf}
 use Rattle.definition.specs.Round.{round, chain}
-use Rattle.definition.specs.Start.{blockCount}
+use Rattle.definition.specs.Width.{blockCount}
 use Rattle.definition.specs.State.{five, blocksIn, stateOf}
 use Rattle.definition.specs.Final.{outputs, finalRounds, final}
 use Rattle.definition.proofs.Chain.{blocks-of-state, length-chain}

@@ -4,8 +4,9 @@
 use mathlib.Core.Path.{_≡_, refl, sym, ap, ap₂, _∙_}
 use mathlib.Core.Bool.{Bool, true, _&&_}
 use mathlib.Core.List.{List, [], _∷_, _++_, map}
-use Prim.Native.Nat.{ℕ, zero, suc, _*_, _^_}
+use Prim.Native.Nat.{ℕ, zero, suc, _*_, _^_, _<_}
 use native.Mathlib.Numerals.{add-one}
+use native.Mathlib.Omega.{arith}
 use lib.Bits.{bitXor}
 use lib.Dec.{T, ltb, ltb→lt}
 use lib.ListN.{getD, length, length-append}
@@ -15,11 +16,19 @@ use Rattle.definition.specs.declared.Width.the-variants.{W3, W4, W5}
 use Rattle.definition.specs.Block.{_⊕_, zeroBlock}
 use Rattle.definition.specs.Field.{double, times}
 use Rattle.definition.specs.Injection.{matrix, row, inject}
-use Rattle.definition.specs.Start.{blockCount}
-use Rattle.definition.specs.AppendixE.{Form, block, _⊞_, twice, power, sum, η, ξ, chained, forms, value, appendixE}
+use Rattle.definition.specs.Width.{blockCount}
+use Rattle.definition.specs.AppendixE.{Form, block, _⊞_, twice, power, xorTo, η, ξ, withoutMessage, forms, value, appendixE}
 use Rattle.definition.proofs.Conditions.{both-left, both-right}
+use Rattle.definition.specs.Buffer.{Every}
 use Rattle.definition.proofs.Field.{times-zero, times-one, times-xor, times-twice}
 use Rattle.definition.proofs.Xor.{⊕-swap, ⊕-zero, zero-⊕, double-⊕}
+
+-- each coefficient of the matrices is an element of the field
+pub matrix-elements : (w : Width) → Every (Every (λ c. c < 2 ^ 8)) (matrix w)
+unfolding matrix
+matrix-elements W3 = omega arith
+matrix-elements W4 = omega arith
+matrix-elements W5 = (omega arith, (omega arith, (omega arith, (omega arith, (omega arith, tt)))))
 
 -- the coefficient of block k in a form
 unit : (i k : ℕ) → ℕ
@@ -101,13 +110,13 @@ readings (e ∷ es) bs t =
 
 -- what the checker computes at each w: the coefficients of Appendix E's forms are the matrix, and none reaches x^8
 compared : (w : Width) → map (λ e. table (suc (blockCount w)) (coefficient e)) (forms w) ≡ matrix w
-unfolding table coefficient unit forms chained ξ η sum power matrix blockCount
+unfolding table coefficient unit forms withoutMessage ξ η xorTo power matrix blockCount
 compared W3 = refl
 compared W4 = refl
 compared W5 = refl
 
 tested : (w : Width) → T (allInField (suc (blockCount w)) (forms w))
-unfolding allInField inField small table coefficient unit forms chained ξ η sum power blockCount
+unfolding allInField inField small table coefficient unit forms withoutMessage ξ η xorTo power blockCount
 tested W3 = tt
 tested W4 = tt
 tested W5 = tt

@@ -103,17 +103,17 @@ rest-whole n x e = drop-of-length-le x {i = length x / 32 * 32} (omega arith)
 pub blocks-append : (n : ℕ) (x y : List ℕ) → length x ≡ n * 32 → blocks (x ++ y) ≡ blocks x ++ blocks y
 blocks-append n x y e = rw (rest-whole n x e) at (blocks-feed x y)
 
-pub length-padding : (last n : ℕ) → length (padding last n) ≡ 32 - n % 32
+pub length-padding : (byte n : ℕ) → length (padding byte n) ≡ 32 - n % 32
 unfolding padding
-length-padding last n = omega (arith, length-replicate {A = ℕ} (31 - n % 32) 0)
+length-padding byte n = omega (arith, length-replicate {A = ℕ} (31 - n % 32) 0)
 
 pub rest-short : (x : List ℕ) → length x < 32 → rest x ≡ x
 unfolding rest
 rest-short x h = let e : length x / 32 * 32 ≡ 0 = omega arith in rw e
 
 -- a padded string is its full blocks and one more
-pub blocks-padded : (last : ℕ) (x : List ℕ) → blocks (padded last x) ≡ blocks x ++ (lastBlock last x ∷ [])
+pub blocks-padded : (byte : ℕ) (x : List ℕ) → blocks (padded byte x) ≡ blocks x ++ (lastBlock byte x ∷ [])
 unfolding padded lastBlock
-blocks-padded last x =
-    let p : List ℕ = padding last (length x) in
-    rw (blocks-feed x p, blocks-one (rest x ++ p) (omega (arith, length-append (rest x) p, length-rest x, length-padding last (length x))))
+blocks-padded byte x =
+    let p : List ℕ = padding byte (length x) in
+    rw (blocks-feed x p, blocks-one (rest x ++ p) (omega (arith, length-append (rest x) p, length-rest x, length-padding byte (length x))))

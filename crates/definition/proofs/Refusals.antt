@@ -7,7 +7,7 @@ use mathlib.Core.List.{List, [], _∷_, _++_}
 use Prim.Native.Nat.{ℕ, zero, suc, _<_}
 use native.Mathlib.Omega.{arith}
 use lib.Dec.{eqb}
-use Rattle.definition.specs.Refusal.{Refusal, First, NoneHolds, pick, firstOf, conditionOf, whenDone}
+use Rattle.definition.specs.Refusal.{Refusal, First, NoneHolds, Judged, pick, firstOf, numbersOf, conditionOf, whenDone}
 use Rattle.definition.specs.Refusal.First.{here, later}
 use Rattle.definition.specs.Refusal.NoneHolds.{none, more}
 use Rattle.definition.specs.Buffer.{Every}
@@ -51,7 +51,11 @@ given-none ((n, false) ∷ rs) h e = more (given-none rs (h .1) e)
 pub none-exactly : (rs : List Refusal) → Numbered rs → (firstOf rs ≡ 0) ↔ NoneHolds rs
 none-exactly rs h = (given-none rs h, none-given)
 
--- and then the condition under each number fails
+-- so an answer that is the first of a list is judged by it
+pub judged : {number : ℕ} (rs : List Refusal) → Numbered rs → number ≡ firstOf rs → Judged number rs (numbersOf rs)
+judged rs h e = rw e (record { in-order = refl; zero-given = none-exactly rs h; number-given = λ k. given-exactly k rs })
+
+-- and where it is 0, the condition under each number fails
 pub fails : (rs : List Refusal) → Numbered rs → firstOf rs ≡ 0 → (k : ℕ) → conditionOf k rs ≡ false
 unfolding firstOf conditionOf pick
 fails [] h e k = refl
@@ -70,8 +74,8 @@ in-turn ((suc n, true) ∷ rs) ss h = refl
 in-turn ((zero, true) ∷ rs) ss h = absurd (omega arith)
 in-turn ((n, false) ∷ rs) ss h = in-turn rs ss (h .1)
 
-pub judged : {i j k : ℕ} (rs ss : List Refusal) → Numbered rs → k ≡ whenDone i j i → i ≡ firstOf rs → j ≡ firstOf ss → k ≡ firstOf (rs ++ ss)
-judged rs ss h e f g = e ∙ rw (f, g) (in-turn rs ss h)
+pub then-judged : {i j k : ℕ} (rs ss : List Refusal) → Numbered rs → k ≡ whenDone i j i → i ≡ firstOf rs → j ≡ firstOf ss → k ≡ firstOf (rs ++ ss)
+then-judged rs ss h e f g = e ∙ rw (f, g) (in-turn rs ss h)
 
 -- of a list that begins with another's refusals the front decides where one of its conditions holds
 pub front-given : {k : ℕ} (rs ss : List Refusal) → k ≡ firstOf rs → (k ≡ 0 → ⊥) → k ≡ firstOf (rs ++ ss)

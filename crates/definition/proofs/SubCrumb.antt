@@ -10,8 +10,8 @@ use lib.Dec.{T, eqb, eqb→eq}
 use lib.ListN.{getD, set, List·getD-map}
 use lib.Pow.{ones-sub-lt, pow-pos}
 use Rattle.definition.specs.Word.{bit}
-use Rattle.definition.specs.SubCrumb.{S, crumb, subWord, subCrumb}
-use Rattle.definition.specs.AppendixD.{Instruction, MOV, OR, XOR, AND, NOT, table4, execute, run, results, appendixD}
+use Rattle.definition.specs.SubCrumb.{S, sboxInput, subWord, subCrumb}
+use Rattle.definition.specs.AppendixD.{Instruction, MOV, OR, XOR, AND, NOT, table4, execute, executeAll, results, appendixD}
 use Rattle.definition.proofs.Bits.{bits-at, bit-zero, bit-xor, bit-and, bit-or, bit-not, from-its-bits}
 use Rattle.definition.proofs.Cases.{everyBits, at-bits}
 use Rattle.definition.specs.Buffer.{Every}
@@ -35,10 +35,10 @@ below-execute n (XOR d s) rs h = below-set n rs d _ h (xor-lt n _ _ (below-at n 
 below-execute n (AND d s) rs h = below-set n rs d _ h (and-lt n _ _ (below-at n rs h d) (below-at n rs h s))
 below-execute n (NOT d) rs h = below-set n rs d _ h (ones-sub-lt n _)
 
-below-run : (n : ℕ) (is : List Instruction) (rs : List ℕ) → Below n rs → Below n (run n is rs)
-unfolding run
-below-run n [] rs h = h
-below-run n (i ∷ is) rs h = below-run n is (execute n i rs) (below-execute n i rs h)
+below-executeAll : (n : ℕ) (is : List Instruction) (rs : List ℕ) → Below n rs → Below n (executeAll n is rs)
+unfolding executeAll
+below-executeAll n [] rs h = h
+below-executeAll n (i ∷ is) rs h = below-executeAll n is (execute n i rs) (below-execute n i rs h)
 
 map-set : (f : ℕ → ℕ) (rs : List ℕ) (d a : ℕ) → map f (set rs d a) ≡ set (map f rs) d (f a)
 map-set f [] d a = refl
@@ -59,15 +59,15 @@ module _ (n l : ℕ) (hl : l < n) where
   execute-bit (NOT d) rs h = rw (map-set, bit-not n l (getD rs d 0) hl (below-at n rs h d), reg rs d)
 
   -- a program on words works at each bit apart
-  run-bit : (is : List Instruction) (rs : List ℕ) → Below n rs → map (bit l) (run n is rs) ≡ run 1 is (map (bit l) rs)
-  unfolding run
-  run-bit [] rs h = refl
-  run-bit (i ∷ is) rs h = run-bit is (execute n i rs) (below-execute n i rs h) ∙ ap (run 1 is) (execute-bit i rs h)
+  executeAll-bit : (is : List Instruction) (rs : List ℕ) → Below n rs → map (bit l) (executeAll n is rs) ≡ executeAll 1 is (map (bit l) rs)
+  unfolding executeAll
+  executeAll-bit [] rs h = refl
+  executeAll-bit (i ∷ is) rs h = executeAll-bit is (execute n i rs) (below-execute n i rs h) ∙ ap (executeAll 1 is) (execute-bit i rs h)
 
 -- at one bit, the register that holds x_k gives bit k of S
-right : (register k : ℕ) → List ℕ → Bool
-right register k bs =
-    eqb (getD (run 1 table4 (bs ++ (0 ∷ []))) register 0)
+agrees : (register k : ℕ) → List ℕ → Bool
+agrees register k bs =
+    eqb (getD (executeAll 1 table4 (bs ++ (0 ∷ []))) register 0)
     (bit k (S (getD bs 3 0 * 8 + getD bs 2 0 * 4 + getD bs 1 0 * 2 + getD bs 0 0)))
 
 module _ (a0 a1 a2 a3 : ℕ) (h0 : a0 < 2 ^ 32) (h1 : a1 < 2 ^ 32) (h2 : a2 < 2 ^ 32) (h3 : a3 < 2 ^ 32) where
@@ -76,22 +76,22 @@ module _ (a0 a1 a2 a3 : ℕ) (h0 : a0 < 2 ^ 32) (h1 : a1 < 2 ^ 32) (h2 : a2 < 2 
   registers = a0 ∷ a1 ∷ a2 ∷ a3 ∷ 0 ∷ []
 
   abbrev after : List ℕ
-  after = run 32 table4 registers
+  after = executeAll 32 table4 registers
 
   loaded : Below 32 registers
   loaded = (h0, (h1, (h2, (h3, (pow-pos 32, tt)))))
 
   -- a register's word is x_k, from the sixteen cases
-  word : (register k : ℕ) → T (everyBits 4 (right register k)) → getD after register 0 ≡ subWord k a0 a1 a2 a3
-  unfolding subWord crumb right
+  word : (register k : ℕ) → T (everyBits 4 (agrees register k)) → getD after register 0 ≡ subWord k a0 a1 a2 a3
+  unfolding subWord sboxInput agrees
   word register k t =
-      from-its-bits 32 _ (λ l. bit k (S (crumb a0 a1 a2 a3 l))) (below-at 32 after (below-run 32 table4 registers loaded) register)
+      from-its-bits 32 _ (λ l. bit k (S (sboxInput a0 a1 a2 a3 l))) (below-at 32 after (below-executeAll 32 table4 registers loaded) register)
       (λ l hl.
-      rw (reg 32 l hl after register, run-bit 32 l hl table4 registers loaded, bit-zero l)
-      (eqb→eq _ _ (at-bits (right register k) t (bits-at l (a0 ∷ a1 ∷ a2 ∷ a3 ∷ [])))))
+      rw (reg 32 l hl after register, executeAll-bit 32 l hl table4 registers loaded, bit-zero l)
+      (eqb→eq _ _ (at-bits (agrees register k) t (bits-at l (a0 ∷ a1 ∷ a2 ∷ a3 ∷ [])))))
 
   -- Appendix D's instructions, read left to right and line by line, give SubCrumb
   pub instructions : appendixD a0 a1 a2 a3 ≡ subCrumb a0 a1 a2 a3
-  unfolding appendixD subCrumb results right run execute table4 bit S
+  unfolding appendixD subCrumb results agrees executeAll execute table4 bit S
   instructions =
       λ i. record { x0 = word 4 0 tt i; x1 = word 1 1 tt i; x2 = word 2 2 tt i; x3 = word 3 3 tt i }

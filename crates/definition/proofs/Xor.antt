@@ -40,7 +40,7 @@ word-assoc =
     ∙ ap₂ (λ (x y : ℕ). x * 2 + y) (halves n b c (ih (b / 2) (c / 2))) (digit n b c)
     ∙ div-add-mod' (bitXor n (bitXor b c)) 2)
 
-word-swap : (a b c d : ℕ) → bitXor (bitXor a b) (bitXor c d) ≡ bitXor (bitXor a c) (bitXor b d)
+pub word-swap : (a b c d : ℕ) → bitXor (bitXor a b) (bitXor c d) ≡ bitXor (bitXor a c) (bitXor b d)
 word-swap a b c d =
     cc (word-assoc a b (bitXor c d), word-assoc b c d, xor-comm b c, word-assoc c b d, word-assoc a c (bitXor b d))
 

@@ -8,7 +8,7 @@ use lib.Dec.{eqb}
 use Rattle.definition.specs.declared.Pair.{Pair}
 use Rattle.definition.specs.Constant.{constants}
 
--- the printed digits; block 1, step 5, word 4 has nine
+-- B-2 to B-4: the printed digits; block 1, step 5, word 4 has nine
 unfoldable pub printed : List (List ℕ)
 printed =
     (0x303994a6 ∷ 0xe0337818 ∷ 0xc0e65299 ∷ 0x441ba90d ∷ 0x6cc33a12 ∷ 0x7f34d442 ∷ 0xdc56983e ∷ 0x9389217f
@@ -43,12 +43,12 @@ unless false m ms = m ∷ ms
 -- the misprints among a block's sixteen entries, from the k-th on: two to a step, for words 0 and 4
 unfoldable pub misprintsOf : (block k : ℕ) → (print generated : List ℕ) → List Misprint
 unfolding unless
-misprintsOf j k [] gs = []
+misprintsOf j k [] cs = []
 misprintsOf j k (p ∷ ps) [] =
     record { block = j; step = k / 2; word = 4 * (k % 2); print = p; generated = 0 } ∷ misprintsOf j (suc k) ps []
-misprintsOf j k (p ∷ ps) (g ∷ gs) =
-    unless (eqb p g) (record { block = j; step = k / 2; word = 4 * (k % 2); print = p; generated = g })
-    (misprintsOf j (suc k) ps gs)
+misprintsOf j k (p ∷ ps) (c ∷ cs) =
+    unless (eqb p c) (record { block = j; step = k / 2; word = 4 * (k % 2); print = p; generated = c })
+    (misprintsOf j (suc k) ps cs)
 
 -- the misprints of all blocks, from block j on
 unfoldable pub misprintsFrom : (block : ℕ) → List (List ℕ) → List Misprint

@@ -1,4 +1,5 @@
--- Blocks of eight words: section 2.2 of the source. The struct itself stands in src/, so that code and definitions share it.
+-- Blocks of eight words: sections 2.2 and 2.3 of the source, and their XOR, 2.1.2 and 3.3. The struct itself stands in src/, so that code
+-- and definitions share it.
 use Prim.Native.Nat.{ℕ, _+_, _*_}
 use mathlib.Core.List.{List, [], _∷_, _++_}
 use lib.Bits.{bitXor}
@@ -6,11 +7,11 @@ use lib.ListN.{getD}
 use Rattle.definition.specs.declared.Block.{Block}
 use Rattle.definition.specs.Word.{wordOf}
 
--- the block of zeros, 0x00..0 of 3.3
+-- 3.3: the block of zeros, 0x00..0
 abbrev pub zeroBlock : Block
 zeroBlock = record { a0 = 0; a1 = 0; a2 = 0; a3 = 0; a4 = 0; a5 = 0; a6 = 0; a7 = 0 }
 
--- XOR of two blocks, word by word
+-- 2.1.2: XOR of two blocks, word by word
 infixl 60 _⊕_
 unfoldable pub _⊕_ : Block → Block → Block
 a ⊕ b =
@@ -25,7 +26,7 @@ a ⊕ b =
       a7 = bitXor (a .a7) (b .a7);
     }
 
--- XOR of all blocks of a list: ⊕ over j of 3.3
+-- 3.3: XOR of all blocks of a list, ⊕ over j
 unfoldable pub xorAll : List Block → Block
 xorAll [] = zeroBlock
 xorAll (b ∷ bs) = b ⊕ xorAll bs
@@ -34,7 +35,7 @@ xorAll (b ∷ bs) = b ⊕ xorAll bs
 unfoldable pub wordsOf : Block → List ℕ
 wordsOf b = b .a0 ∷ b .a1 ∷ b .a2 ∷ b .a3 ∷ b .a4 ∷ b .a5 ∷ b .a6 ∷ b .a7 ∷ []
 
--- the words of a list of blocks, one block after the other
+-- 2.3: the 8w words of a state, one block after the other
 unfoldable pub wordsOfAll : List Block → List ℕ
 wordsOfAll [] = []
 wordsOfAll (b ∷ bs) = wordsOf b ++ wordsOfAll bs

@@ -14,10 +14,10 @@ outputs w (suc n) h =
     let h' : List Block = round w h zeroBlock in
     wordsOf (xorAll h') ++ outputs w n h'
 
--- the blank rounds that give a number of words: eight words to a round, rounded up
+-- 3.3: the blank rounds that give a number of words, eight words to a round, rounded up
 unfoldable pub finalRounds : ℕ → ℕ
 finalRounds words = (words + 7) / 8
 
--- the first words of Z_0 || Z_1 || ..
+-- 3.3 and 5: the first words of Z_0 || Z_1 || ..
 unfoldable pub final : Width → (words : ℕ) → List Block → List ℕ
 final w words h = take words (outputs w (finalRounds words) h)

@@ -1,4 +1,4 @@
--- The message injection function MI by its matrices: sections 3.2.1 to 3.2.3 of the source.
+-- The message injection function MI by its matrices: section 3.2 of the source with 3.2.1 to 3.2.3.
 use Prim.Native.Nat.{ℕ}
 use mathlib.Core.List.{List, [], _∷_, _++_, map}
 use Rattle.definition.specs.declared.Block.{Block}
@@ -28,12 +28,12 @@ matrix W5 =
     ∷ (0x08 ∷ 0x0a ∷ 0x0a ∷ 0x08 ∷ 0x0f ∷ 0x10 ∷ [])
     ∷ []
 
--- a row times a column of blocks
+-- 3.2.1 to 3.2.3: a row times the column of blocks
 unfoldable pub row : List ℕ → List Block → Block
 row [] bs = zeroBlock
 row (c ∷ cs) [] = zeroBlock
 row (c ∷ cs) (b ∷ bs) = times c b ⊕ row cs bs
 
--- MI: X_0 || .. || X_w-1 from H_0 .. H_w-1 and M
+-- 3.2: MI, X_0 || .. || X_w-1 from H_0 .. H_w-1 and M
 unfoldable pub inject : Width → List Block → Block → List Block
 inject w h m = map (λ cs. row cs (h ++ (m ∷ []))) (matrix w)

@@ -4,7 +4,7 @@ use lib.Bits.{bitXor}
 use Rattle.definition.specs.declared.Pair.{Pair}
 use Rattle.definition.specs.Word.{rotl}
 
--- y_k and y_k+4 from x_k and x_k+4, the equations one after the other, with σ = 2, 14, 10, 1
+-- 4.3: y_k and y_k+4 from x_k and x_k+4, the equations one after the other, with σ = 2, 14, 10, 1
 unfoldable pub mixWord : (x0 x4 : ℕ) → Pair
 mixWord x0 x4 =
     let y4 : ℕ = bitXor x4 x0 in

@@ -1,4 +1,4 @@
--- The permutation Q_j: sections 4.1 and 4.5 of the source.
+-- The permutation Q_j: section 4.1 of the source, with SubCrumb's two halves of 4.2, AddConstant of 4.4 and the tweaks of 4.5.
 use Prim.Native.Nat.{ℕ}
 use mathlib.Core.List.{List, [], _∷_}
 use lib.Bits.{bitXor}
@@ -24,7 +24,7 @@ tweak j b =
       a7 = rotl j (b .a7);
     }
 
--- 4.1: SubCrumb(a0, a1, a2, a3); SubCrumb(a5, a6, a7, a4)
+-- 4.1 and 4.2: SubCrumb(a0, a1, a2, a3); SubCrumb(a5, a6, a7, a4)
 unfoldable pub subCrumbs : Block → Block
 subCrumbs a =
     let x : Crumb = subCrumb (a .a0) (a .a1) (a .a2) (a .a3) in
@@ -76,7 +76,7 @@ addConstant c y =
 unfoldable pub step : Pair → Block → Block
 step c a = addConstant c (mixWords (subCrumbs a))
 
--- a step for each pair of constants in turn
+-- 4.1: a step for each pair of constants in turn
 unfoldable pub steps : List Pair → Block → Block
 steps [] a = a
 steps (c ∷ cs) a = steps cs (step c a)

@@ -1,5 +1,7 @@
 -- Refusals by number: document 01, "Refusal numbers". A call's order of refusals is a list of numbers with their conditions; the answer is
 -- the first whose condition holds, and 0 where none does.
+use mathlib.Core.Path.{_≡_}
+use mathlib.Core.Logic.{_↔_}
 use Prim.Native.Nat.{ℕ, zero, suc}
 use mathlib.Core.Bool.{Bool, true, false, not, _&&_}
 use mathlib.Core.List.{List, [], _∷_}
@@ -70,11 +72,11 @@ unfoldable pub conditionOf : (number : ℕ) → List Refusal → Bool
 conditionOf k [] = false
 conditionOf k (r ∷ rs) = pick (eqb (r .0) k) (r .1) (conditionOf k rs)
 
--- each above the one before it
+-- "the lowest number is given": a list whose numbers rise gives the lowest whose condition holds
 unfoldable pub rising : List ℕ → Bool
 rising [] = true
-rising (a ∷ []) = true
-rising (a ∷ b ∷ l) = ltb a b && rising (b ∷ l)
+rising (m ∷ []) = true
+rising (m ∷ n ∷ ns) = ltb m n && rising (n ∷ ns)
 
 -- "given exactly when": its condition holds, and none ranked before it
 pub data First (number : ℕ) : List Refusal → Type 0 where
@@ -85,6 +87,13 @@ pub data First (number : ℕ) : List Refusal → Type 0 where
 pub data NoneHolds : List Refusal → Type 0 where
   none : NoneHolds []
   more : {n : ℕ} {rs : List Refusal} → NoneHolds rs → NoneHolds ((n, false) ∷ rs)
+
+-- an answer judged by a list of refusals in this order is 0 exactly when no condition holds, and another number exactly when its condition is the
+-- first that holds
+pub record Judged (number : ℕ) (rs : List Refusal) (order : List ℕ) : Type 0 where
+  pub in-order : numbersOf rs ≡ order
+  pub zero-given : (number ≡ 0) ↔ NoneHolds rs
+  pub number-given : (k : ℕ) → (number ≡ suc k) ↔ First (suc k) rs
 
 -- the first where the number is 0, else the second: what a call that is done leaves, and one that is refused
 unfoldable pub whenDone {ℓ} : {A : Type ℓ} → ℕ → A → A → A

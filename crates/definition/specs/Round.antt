@@ -1,4 +1,4 @@
--- The round function and the chaining: section 3.2 of the source. A state is the list of its w blocks.
+-- The round function and the chaining: sections 2.3 and 3.2 of the source. A state is the list of its w blocks.
 use Prim.Native.Nat.{ℕ, suc}
 use mathlib.Core.List.{List, [], _∷_}
 use Rattle.definition.specs.declared.Block.{Block}
@@ -6,16 +6,16 @@ use Rattle.definition.specs.declared.Width.{Width}
 use Rattle.definition.specs.Injection.{inject}
 use Rattle.definition.specs.Permutation.{permute}
 
--- Q_j on the first block, Q_j+1 on the next, and so on
+-- 3.2: Q_j on the first block, Q_j+1 on the next, and so on
 unfoldable pub permuteFrom : ℕ → List Block → List Block
 permuteFrom j [] = []
 permuteFrom j (x ∷ xs) = permute j x ∷ permuteFrom (suc j) xs
 
--- H^(i) from H^(i-1) and M^(i)
+-- 3.2: H^(i) from H^(i-1) and M^(i)
 unfoldable pub round : Width → List Block → Block → List Block
 round w h m = permuteFrom 0 (inject w h m)
 
--- a round for each message block in turn
+-- 2.3: a round for each message block in turn
 unfoldable pub chain : Width → List Block → List Block → List Block
 chain w h [] = h
 chain w h (m ∷ ms) = chain w (round w h m) ms

@@ -1,16 +1,9 @@
--- The starting variables V_j: Appendix A of the source.
-use Prim.Native.Nat.{ℕ}
+-- The starting variables V_j, and the state that they make: Appendix A and section 3.2 of the source.
 use mathlib.Core.List.{List, [], _∷_}
 use lib.ListN.{take}
 use Rattle.definition.specs.declared.Block.{Block}
 use Rattle.definition.specs.declared.Width.{Width}
-use Rattle.definition.specs.declared.Width.the-variants.{W3, W4, W5}
-
--- Table 2: the number w
-unfoldable pub blockCount : Width → ℕ
-blockCount W3 = 3
-blockCount W4 = 4
-blockCount W5 = 5
+use Rattle.definition.specs.Width.{blockCount}
 
 -- Appendix A, in its order
 unfoldable pub startingVariables : List Block

@@ -1,17 +1,17 @@
--- Five blocks by value, as the code holds a state, read as the list of the first w blocks.
+-- Five blocks by value, as the code holds the 8w words of a state (2.3 of the source), read as the list of the first w blocks.
 use mathlib.Core.List.{List, [], _∷_}
 use lib.ListN.{getD, take}
 use Rattle.definition.specs.declared.Block.{Block}
 use Rattle.definition.specs.declared.State.{State}
 use Rattle.definition.specs.declared.Width.{Width}
 use Rattle.definition.specs.Block.{zeroBlock}
-use Rattle.definition.specs.Start.{blockCount}
+use Rattle.definition.specs.Width.{blockCount}
 
 -- all five
 unfoldable pub five : State → List Block
 five s = s .h0 ∷ s .h1 ∷ s .h2 ∷ s .h3 ∷ s .h4 ∷ []
 
--- H_0 to H_w-1
+-- 3.2: H_0 to H_w-1
 unfoldable pub blocksIn : Width → State → List Block
 blocksIn w s = take (blockCount w) (five s)
 

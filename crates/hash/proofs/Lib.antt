@@ -1,3 +1,3 @@
 -- Laws that the proofs of the calls share.
 pub mod Output
-pub mod Framed
+pub mod Read

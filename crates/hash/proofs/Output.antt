@@ -10,7 +10,8 @@ use Rattle.definition.specs.Start.{start}
 use Rattle.definition.specs.State.{blocksIn, stateOf}
 use Rattle.definition.specs.Padding.{closing, padded, blocks}
 use Rattle.definition.specs.Final.{final}
-use Rattle.definition.specs.Luffa.{widthAt, wordsAt, digestAfter, luffa}
+use Rattle.definition.specs.Width.{widthAt}
+use Rattle.definition.specs.Luffa.{wordsAt, digestAfter, luffa}
 use Rattle.definition.proofs.Chain.{blocks-of-start}
 
 -- from the starting variables, over a whole message: Luffa

@@ -4,30 +4,21 @@ ghost use mathlib.Core.Path.{_≡_};
 ghost use Rattle.hash_definition.specs.Calls.{digestOutcome, startOutcome, feedOutcome, finishOutcome};
 use definition::Counted;
 
-// The refusal numbers of document 01.
-pub const DONE: u32 = hash_kept::DONE;
-
-pub const WIDTH: u32 = hash_kept::WIDTH;
-
-pub const OUT: u32 = hash_kept::OUT;
-
-pub const RECORD: u32 = hash_kept::RECORD;
-
-pub const LONG: u32 = hash_kept::LONG;
+// What an accepted call answers, for programs over these calls.
+pub const DONE: u32 = refusals::DONE;
 
 // The digest of a message in one call.
 pub fn digest(code: usize, message: &[u8], out: &mut [u8]) -> u32
     ensures { λ r. ⌜ record { number = r; buffer = now (out .exit) } ≡ digestOutcome code (now (message .entry)) (now (out .entry)) ⌝ }
 {
-    if !codes::known(code) {
-        return WIDTH;
-    }
     let words = codes::words(code);
-    if out.len() < 4 * words {
-        return OUT;
-    }
-    if hash_kept::LIMIT < message.len() {
-        return LONG;
+    let size = refusals::first(
+        refusals::out(4 * words, out.len()),
+        hash_kept::long(0, message.len()),
+    );
+    let number = refusals::first(refusals::width(code), size);
+    if number != refusals::DONE {
+        return number;
     }
     let w = codes::width(code);
     let c = Counted {
@@ -36,49 +27,42 @@ pub fn digest(code: usize, message: &[u8], out: &mut [u8]) -> u32
     };
     let d = rounds::last::absorb_last(w, c, message);
     squeeze::squeeze(w, d, words, out);
-    DONE
+    refusals::DONE
 }
 
 // A fresh record at a code.
 pub fn start(code: usize, record: &mut [u8]) -> u32
     ensures { λ r. ⌜ record { number = r; buffer = now («record» .exit) } ≡ startOutcome code (now («record» .entry)) ⌝ }
 {
-    if !codes::known(code) {
-        return WIDTH;
-    }
-    if record.len() != hash_record::LENGTH {
-        return RECORD;
+    let number = refusals::first(
+        refusals::width(code),
+        refusals::when(record.len() != hash_record::LENGTH, refusals::RECORD),
+    );
+    if number != refusals::DONE {
+        return number;
     }
     hash_record::encode(hash_working::started(code), record);
-    DONE
+    refusals::DONE
 }
 
 // A piece fed to a record, which is altered where it lies.
 pub fn feed(record: &mut [u8], piece: &[u8]) -> u32
     ensures { λ r. ⌜ record { number = r; buffer = now («record» .exit) } ≡ feedOutcome (now («record» .entry)) (now (piece .entry)) ⌝ }
 {
-    let found = hash_record::read(record);
-    if !found.framed {
-        return RECORD;
-    }
-    let k = found.kept;
+    let k = hash_record::read(record);
     let a = hash_pieces::fed_answer(k, piece);
-    if a.number != DONE {
+    if a.number != refusals::DONE {
         return a.number;
     }
     let after = a.kept;
     hash_record::encode(after, record);
-    DONE
+    refusals::DONE
 }
 
 // The digest of what a record was fed; the record stays as it is.
 pub fn finish(record: &[u8], out: &mut [u8]) -> u32
     ensures { λ r. ⌜ record { number = r; buffer = now (out .exit) } ≡ finishOutcome (now («record» .entry)) (now (out .entry)) ⌝ }
 {
-    let found = hash_record::read(record);
-    if !found.framed {
-        return RECORD;
-    }
-    let k = found.kept;
+    let k = hash_record::read(record);
     hash_working::finished_answer(k, out)
 }

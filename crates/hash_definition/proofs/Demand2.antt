@@ -12,15 +12,16 @@ use Rattle.definition.specs.Luffa.{bytesAt, luffa}
 use Rattle.definition.specs.Buffer.{overwrite, joined}
 use Rattle.definition.specs.Refusal.{pick, firstOf, known, widthRefusal, whenDone}
 use Rattle.hash_definition.specs.Record.{recordLength, limit, encode, started, fed}
-use Rattle.hash_definition.specs.Calls.{outcome, startRefusals, digestOutcome, startOutcome, feedOutcome, finishOutcome}
-use Rattle.hash_definition.proofs.Feeding.{keptOf, Fed, feedEach, Sound, kept-sound, feed-each}
-use Rattle.hash_definition.proofs.Working.{inBytes, lent-feed, lent-finish, sound-typed, sound-byte}
-use Rattle.hash_definition.proofs.WorkingDemand2.{done, lent-feed-done, kept-finish-done, digest-done}
+use Rattle.hash_definition.specs.Calls.{outcome, bufferRefusal, startRefusals, startOutcome, feedOutcome, finishOutcome}
+use Rattle.hash_definition.specs.Said.{done, inBytes, feedAll, Demand2}
+use Rattle.hash_definition.proofs.Feeding.{keptOf, Sound, kept-sound, feed-each}
+use Rattle.hash_definition.proofs.Working.{lent-feed, lent-finish, sound-typed, sound-byte}
+use Rattle.hash_definition.proofs.WorkingDemand2.{lent-feed-done, kept-finish-done, digest-done}
 
 -- a known code and a buffer of 208 bytes: the record to begin with
-start-done : (code : ℕ) (r : List ℕ) → known code ≡ true → length r ≡ recordLength → startOutcome code r ≡ done (encode (started code))
-unfolding startOutcome outcome startRefusals widthRefusal firstOf pick whenDone
-start-done code r k e = rw (k, eq-eqb (length r) recordLength e)
+start-done : (code : ℕ) (b : List ℕ) → known code ≡ true → length b ≡ recordLength → startOutcome code b ≡ done (encode (started code))
+unfolding startOutcome outcome startRefusals widthRefusal bufferRefusal firstOf pick whenDone
+start-done code b k e = rw (k, eq-eqb (length b) recordLength e)
 
 -- a piece within the limit: the bytes of what was fed
 feed-done : (k : Kept) (p : List ℕ) → Sound k → k .count + length p ≤ limit → feedOutcome (encode k) p ≡ done (encode (fed k p))
@@ -33,27 +34,15 @@ finish-done code x out k h l =
     let s : Sound (keptOf code x) = kept-sound code x k h in
     lent-finish (keptOf code x) (sound-typed _ s) (sound-byte _ s) out ∙ kept-finish-done code x out k h l
 
--- each piece fed to the record as the piece before left it
-abbrev pub feedAll : (record' : List ℕ) → (pieces : List (List ℕ)) → Fed (List ℕ)
-feedAll = feedEach (λ r p. feedOutcome r p .number) (λ r p. feedOutcome r p .buffer)
-
--- Demand 2, for a code, a buffer for the record, the pieces of a message and an output buffer: starting is accepted, feeding each piece in
--- turn is accepted each time, finishing puts the digest of the message into the output buffer, and so does digesting the message at once.
-pub record Demand2 (code : ℕ) (r : List ℕ) (ps : List (List ℕ)) (out : List ℕ) : Type 0 where
-  pub started : startOutcome code r .number ≡ 0
-  pub fed : feedAll (startOutcome code r .buffer) ps .numbers ≡ replicate (length ps) 0
-  pub finished : finishOutcome (feedAll (startOutcome code r .buffer) ps .held) out ≡ done (overwrite (luffa code (joined ps)) out)
-  pub digested : digestOutcome code (joined ps) out ≡ done (overwrite (luffa code (joined ps)) out)
-
 -- Demand 2 holds for every known code, every buffer of 208 bytes, every message of at most 2^61 - 1 bytes in any pieces, empty ones too,
 -- and every output buffer that has room for the digest
-pub demand2 : (code : ℕ) (r : List ℕ) (ps : List (List ℕ)) (out : List ℕ)
-    → known code ≡ true → length r ≡ recordLength → length (joined ps) ≤ limit → bytesAt code ≤ length out
-    → Demand2 code r ps out
-demand2 code r ps out k e h l =
-    let s = start-done code r k e in
-    let f : feedAll (encode (started code)) ps ≡ record { numbers = replicate (length ps) 0; held = encode (keptOf code (joined ps)) } =
-    feed-each (λ r p. feedOutcome r p .number) (λ r p. feedOutcome r p .buffer) encode
+pub demand2 : (code : ℕ) (b : List ℕ) (ps : List (List ℕ)) (out : List ℕ)
+    → known code ≡ true → length b ≡ recordLength → length (joined ps) ≤ limit → bytesAt code ≤ length out
+    → Demand2 code b ps out
+demand2 code b ps out k e h l =
+    let s = start-done code b k e in
+    let f : feedAll (encode (started code)) ps ≡ record { numbers = replicate (length ps) 0; last = encode (keptOf code (joined ps)) } =
+    feed-each (λ b p. feedOutcome b p .number) (λ b p. feedOutcome b p .buffer) encode
     (λ j p s i. rw (feed-done j p s i) (refl, refl)) code ps k h in
     record {
       started = rw s;

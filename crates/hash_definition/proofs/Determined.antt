@@ -10,14 +10,14 @@ use Rattle.hash_definition.specs.Lent.{lentStartOutcome, lentFeedOutcome
 pub digest-determined : (code : ℕ) (message out : List ℕ) → Determined (digestOutcome code message out)
 digest-determined code message out = determined (digestOutcome code message out)
 
-pub start-determined : (code : ℕ) (r : List ℕ) → Determined (startOutcome code r)
-start-determined code r = determined (startOutcome code r)
+pub start-determined : (code : ℕ) (buffer : List ℕ) → Determined (startOutcome code buffer)
+start-determined code buffer = determined (startOutcome code buffer)
 
-pub feed-determined : (r piece : List ℕ) → Determined (feedOutcome r piece)
-feed-determined r piece = determined (feedOutcome r piece)
+pub feed-determined : (b piece : List ℕ) → Determined (feedOutcome b piece)
+feed-determined b piece = determined (feedOutcome b piece)
 
-pub finish-determined : (r out : List ℕ) → Determined (finishOutcome r out)
-finish-determined r out = determined (finishOutcome r out)
+pub finish-determined : (b out : List ℕ) → Determined (finishOutcome b out)
+finish-determined b out = determined (finishOutcome b out)
 
 pub lent-start-determined : (code : ℕ) (k : Kept) → Determined (lentStartOutcome code k)
 lent-start-determined code k = determined (lentStartOutcome code k)

@@ -20,13 +20,15 @@ use Rattle.definition.specs.Word.{bytesOf, bytesOfAll}
 use Rattle.definition.specs.Block.{zeroBlock, wordsOf, wordsOfAll}
 use Rattle.definition.specs.Round.{chain}
 use Rattle.definition.specs.Padding.{closing, padding, padded, blocks, rest}
-use Rattle.definition.specs.Start.{blockCount, start}
+use Rattle.definition.specs.Width.{blockCount, widthAt}
+use Rattle.definition.specs.Start.{start}
 use Rattle.definition.specs.Final.{outputs, finalRounds, final}
 use Rattle.definition.specs.State.{five, blocksIn, stateOf}
 use Rattle.definition.specs.Buffer.{joined}
-use Rattle.definition.specs.Luffa.{widthAt, wordsAt, digestAfter, luffa}
+use Rattle.definition.specs.Luffa.{wordsAt, digestAfter, luffa}
 use Rattle.definition.specs.Refusal.{known}
-use Rattle.hash_definition.specs.Record.{limit, filled, allZero, pendingCount, pendingBytes, wellKept, started, fed, finished}
+use Rattle.hash_definition.specs.Said.{feedEach}
+use Rattle.hash_definition.specs.Record.{limit, withZeros, allZero, pendingCount, pendingBytes, wellKept, started, fed, finished}
 use Rattle.definition.proofs.Conditions.{both-true}
 use Rattle.definition.proofs.Every.{every-take}
 use Rattle.definition.proofs.Bounds.{Words, AllWords, chain-words, start-words, five-words, word-in}
@@ -78,7 +80,7 @@ length-waiting k y e =
 
 -- the pending bytes of a fed record are those that wait after the bytes pending before and the piece
 pending-fed : (k : Kept) (y : List ℕ) → length (k .pending) ≡ 32 → pendingBytes (fed k y) ≡ rest (pendingBytes k ++ y)
-unfolding fed pendingBytes pendingCount filled
+unfolding fed pendingBytes pendingCount withZeros
 pending-fed k y e = take-at (rest (pendingBytes k ++ y)) _ _ (length-waiting k y e)
 
 -- fed in turn is fed at once, also from a record that no message leads to
@@ -114,7 +116,7 @@ unused-chain w s ms = rw (blocks-of-chain w (blocksIn w s) ms (length-blocksIn w
 -- feeding within the limit keeps a well kept record well kept
 pub fed-well : (k : Kept) (p : List ℕ) → wellKept k ≡ true → length (k .pending) ≡ 32 → k .count + length p ≤ limit
     → wellKept (fed k p) ≡ true
-unfolding wellKept fed pendingCount filled
+unfolding wellKept fed pendingCount withZeros
 fed-well k p e l h =
     let x : List ℕ = pendingBytes k ++ p in
     rw (
@@ -131,7 +133,7 @@ unfolding fed
 fed-count k p = refl
 
 fed-pending : (k : Kept) (p : List ℕ) → length (fed k p .pending) ≡ 32
-unfolding fed filled
+unfolding fed withZeros
 fed-pending k p =
     let x : List ℕ = rest (pendingBytes k ++ p) in
     omega (arith, length-append x (replicate (32 - length x) 0), length-replicate {A = ℕ} (32 - length x) 0, length-rest (pendingBytes k ++ p))
@@ -154,9 +156,9 @@ state-used W4 s e = λ i. record { h0 = s .h0; h1 = s .h1; h2 = s .h2; h3 = s .h
 state-used W5 s e = refl
 
 -- bytes with nothing but zeros after them are filled up with those zeros
-filled-take : (n : ℕ) (p : List ℕ) → n ≤ 32 → length p ≡ 32 → allZero (drop n p) ≡ true → filled (take n p) ≡ p
-unfolding filled
-filled-take n p h l e =
+with-zeros-take : (n : ℕ) (p : List ℕ) → n ≤ 32 → length p ≡ 32 → allZero (drop n p) ≡ true → withZeros (take n p) ≡ p
+unfolding withZeros
+with-zeros-take n p h l e =
     let m : 32 - length (take n p) ≡ length (drop n p) = omega (arith, length-take-le n p (omega arith), length-drop n p) in
     rw (m, ← zeros (drop n p) e) (take-append-drop n p)
 
@@ -172,7 +174,7 @@ fed-empty k e l =
       blocks-none (take n (k .pending)) s,
       rest-short (take n (k .pending)) s,
       state-used (widthAt (k .code)) (k .state) (c .unused),
-      filled-take n (k .pending) (omega arith) l (c .after),
+      with-zeros-take n (k .pending) (omega arith) l (c .after),
       add-zero (k .count),
     )
 
@@ -220,7 +222,7 @@ pub record Sound (k : Kept) : Type 0 where
   pub buffer : length (k .pending) ≡ 32
   pub well : wellKept k ≡ true
 
-started-sound : (code : ℕ) → known code ≡ true → Sound (started code)
+pub started-sound : (code : ℕ) → known code ≡ true → Sound (started code)
 unfolding started
 started-sound code e = record { words = started-words code; buffer = refl; well = started-well code e }
 
@@ -232,33 +234,20 @@ fed-sound k p s h =
 pub kept-sound : (code : ℕ) (x : List ℕ) → known code ≡ true → length x ≤ limit → Sound (keptOf code x)
 kept-sound code x e h = fed-sound (started code) x (started-sound code e) (unfold started in omega arith)
 
--- the answers of calls that feed pieces in turn, and what is held at the end
-pub record Fed (A : Type 0) : Type 0 where
-  pub numbers : List ℕ
-  pub held : A
+-- from a form of working states in which a piece within the limit is accepted and fed
+module _ {A : Type 0} (number : A → List ℕ → ℕ) (next : A → List ℕ → A) (form : Kept → A)
+    (accepts : (k : Kept) (p : List ℕ) → Sound k → k .count + length p ≤ limit → (number (form k) p ≡ 0) × (next (form k) p ≡ form (fed k p)))
+  where
+    each : (k : Kept) (ps : List (List ℕ)) → Sound k → k .count + length (joined ps) ≤ limit
+        → feedEach number next (form k) ps ≡ record { numbers = replicate (length ps) 0; last = form (fed k (joined ps)) }
+    unfolding feedEach joined
+    each k [] s h = rw (fed-empty k (s .well) (s .buffer))
+    each k (p ∷ ps) s h =
+        let l : k .count + length p + length (joined ps) ≤ limit = omega (arith, length-append p (joined ps)) in
+        let a = accepts k p s (omega arith) in
+        rw (a .0, a .1, each (fed k p) ps (fed-sound k p s (omega arith)) (omega (arith, fed-count k p)), fed-fed k p (joined ps) (s .buffer))
 
-module _ {A : Type 0} (number : A → List ℕ → ℕ) (next : A → List ℕ → A) where
-  -- each piece fed to what the piece before left
-  unfoldable pub feedEach : A → (pieces : List (List ℕ)) → Fed A
-  feedEach a [] = record { numbers = []; held = a }
-  feedEach a (p ∷ ps) =
-      let f : Fed A = feedEach (next a p) ps in
-      record { numbers = number a p ∷ f .numbers; held = f .held }
-
-  -- from a form of working states in which a piece within the limit is accepted and fed
-  module _ (form : Kept → A)
-      (accepts : (k : Kept) (p : List ℕ) → Sound k → k .count + length p ≤ limit → (number (form k) p ≡ 0) × (next (form k) p ≡ form (fed k p)))
-    where
-      each : (k : Kept) (ps : List (List ℕ)) → Sound k → k .count + length (joined ps) ≤ limit
-          → feedEach (form k) ps ≡ record { numbers = replicate (length ps) 0; held = form (fed k (joined ps)) }
-      unfolding feedEach joined
-      each k [] s h = rw (fed-empty k (s .well) (s .buffer))
-      each k (p ∷ ps) s h =
-          let l : k .count + length p + length (joined ps) ≤ limit = omega (arith, length-append p (joined ps)) in
-          let a = accepts k p s (omega arith) in
-          rw (a .0, a .1, each (fed k p) ps (fed-sound k p s (omega arith)) (omega (arith, fed-count k p)), fed-fed k p (joined ps) (s .buffer))
-
-      -- pieces of a message within the limit: each answer is 0, and what is held is what the message leads to
-      pub feed-each : (code : ℕ) (ps : List (List ℕ)) → known code ≡ true → length (joined ps) ≤ limit
-          → feedEach (form (started code)) ps ≡ record { numbers = replicate (length ps) 0; held = form (keptOf code (joined ps)) }
-      feed-each code ps e h = each (started code) ps (started-sound code e) (unfold started in omega arith)
+    -- pieces of a message within the limit: each answer is 0, and what the last leaves is what the message leads to
+    pub feed-each : (code : ℕ) (ps : List (List ℕ)) → known code ≡ true → length (joined ps) ≤ limit
+        → feedEach number next (form (started code)) ps ≡ record { numbers = replicate (length ps) 0; last = form (keptOf code (joined ps)) }
+    feed-each code ps e h = each (started code) ps (started-sound code e) (unfold started in omega arith)

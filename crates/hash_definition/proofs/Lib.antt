@@ -1,5 +1,6 @@
--- Laws of the hash record and of its calls: demand 2, over bytes and over a lent working state.
+-- Laws of the hash record and of its calls: their orders of refusals, and demand 2, over bytes and over a lent working state.
 pub mod Refused
+pub mod Orders
 pub mod Feeding
 pub mod Formed
 pub mod Records
@@ -8,3 +9,4 @@ pub mod WorkingDemand2
 pub mod AnyRecord
 pub mod Demand2
 pub mod Determined
+pub mod Instances

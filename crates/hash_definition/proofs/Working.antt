@@ -4,51 +4,29 @@
 use mathlib.Core.Path.{_≡_, refl, sym, ap, _∙_}
 use mathlib.Core.Bool.{true, false}
 use mathlib.Core.List.{List}
-use Prim.Native.Nat.{ℕ, zero, suc, _^_, _<_, _≤_}
+use Prim.Native.Nat.{ℕ, zero, suc, _<_, _≤_}
 use native.Mathlib.Omega.{arith}
 use lib.Dec.{leb}
 use lib.ListN.{length, getD}
 use borrow.Author.Tests.{eq-eqb, le-leb, lt-leb, leb-true}
 use Rattle.hash_definition.specs.declared.Kept.{Kept}
-use Rattle.hash_definition.specs.declared.Lent.{Lent}
-use Rattle.definition.specs.State.{five}
 use Rattle.definition.specs.Refusal.{Refusal, RECORD, pick, firstOf, known, whenDone}
-use Rattle.definition.specs.Block.{wordsOfAll}
 use Rattle.hash_definition.specs.Record.{recordLength, encode, decode, wellKept, wellFormed}
-use Rattle.hash_definition.specs.Calls.{Outcome, outcome, recordRefusal, startRefusals, feedRefusals, finishRefusals, startOutcome, feedOutcome, finishOutcome}
+use Rattle.hash_definition.specs.Calls.{outcome, recordRefusal, bufferRefusal, startRefusals, feedRefusals, finishRefusals, startOutcome, feedOutcome, finishOutcome}
 use Rattle.hash_definition.specs.Lent.{lentOutcome, keptRefusal, lentStartRefusals, lentFeedRefusals, lentFinishRefusals, lentStartOutcome, lentFeedOutcome, lentFinishOutcome}
+use Rattle.hash_definition.specs.Said.{Typed, inBytes}
 use Rattle.definition.proofs.Conditions.{both-true}
 use Rattle.definition.proofs.Bounds.{word-in}
 use Rattle.hash_definition.proofs.Feeding.{well-kept, Sound}
 use Rattle.hash_definition.proofs.Formed.{formed}
 use Rattle.hash_definition.proofs.Records.{length-encode, seven-zeros, decode-encode, encode-decode}
 
--- a refused call's working state is as at entry; an accepted call's is what the call makes of it
-pub lent-refused : (rs : List Refusal) (done before : Kept) (k : ℕ) → firstOf rs ≡ suc k
-    → record { number = suc k; kept = before } ≡ lentOutcome rs done before
-unfolding lentOutcome whenDone
-lent-refused rs done before k e = rw e
-
-pub lent-accepted : (rs : List Refusal) (done before : Kept) → firstOf rs ≡ 0 → record { number = 0; kept = done } ≡ lentOutcome rs done before
-unfolding lentOutcome whenDone
-lent-accepted rs done before e = rw e
-
--- what the types of its fields say of a working state
-pub record Typed (k : Kept) : Type 0 where
-  pub words : (i : ℕ) → getD (wordsOfAll (five (k .state))) i 0 < 2 ^ 32
-  pub pending : length (k .pending) ≡ 32
-  pub count : k .count < 2 ^ 64
-
--- the outcome of the byte form that answers an outcome over a working state
-abbrev pub inBytes : Lent → Outcome
-inBytes o = record { number = o .number; buffer = encode (o .kept) }
-
 -- a call that is refused alike and makes of the bytes what is made of the working state
-in-bytes : (rs : List Refusal) (done before : Kept) → outcome rs (encode done) (encode before) ≡ inBytes (lentOutcome rs done before)
+in-bytes : (rs : List Refusal) (after before : Kept) → outcome rs (encode after) (encode before) ≡ inBytes (lentOutcome rs after before)
 unfolding outcome lentOutcome
-in-bytes rs done before = ap (λ (b : List ℕ). record { number = firstOf rs; buffer = b }) (same (firstOf rs))
+in-bytes rs after before = ap (λ (b : List ℕ). record { number = firstOf rs; buffer = b }) (same (firstOf rs))
   where
-    same : (n : ℕ) → whenDone n (encode done) (encode before) ≡ encode (whenDone n done before)
+    same : (n : ℕ) → whenDone n (encode after) (encode before) ≡ encode (whenDone n after before)
     same zero = unfold whenDone in refl
     same (suc n) = unfold whenDone in refl
 
@@ -78,7 +56,7 @@ module _ (k : Kept) (t : Typed k) where
 
   -- starting: the same number, and the bytes of the working state at the end
   pub lent-start : (code : ℕ) → startOutcome code (encode k) ≡ inBytes (lentStartOutcome code k)
-  unfolding startOutcome startRefusals lentStartOutcome lentStartRefusals lentOutcome firstOf pick
+  unfolding startOutcome startRefusals bufferRefusal lentStartOutcome lentStartRefusals lentOutcome firstOf pick
   lent-start code = rw (eq-eqb (length (encode k)) recordLength length-lent) (in-bytes _ _ _)
 
 -- a code that is known is one byte
@@ -113,11 +91,11 @@ unfolding known
 no-byte code h = rw (le-leb 1 code (omega arith), lt-leb code 4 (omega arith))
 
 -- a well formed record and the working state that it holds: the same answer, and the working state at the end has the record's bytes
-pub held-feed : (r piece : List ℕ) → ((i : ℕ) → getD r i 0 < 256) → wellFormed r ≡ true
-    → feedOutcome r piece ≡ inBytes (lentFeedOutcome (decode r) piece)
+pub held-feed : (b piece : List ℕ) → ((i : ℕ) → getD b i 0 < 256) → wellFormed b ≡ true
+    → feedOutcome b piece ≡ inBytes (lentFeedOutcome (decode b) piece)
 unfolding feedOutcome feedRefusals recordRefusal lentFeedOutcome lentFeedRefusals keptRefusal
-held-feed r piece h w = rw (w, formed r w .holds) (ap (outcome _ _) (sym (encode-decode r h w)) ∙ in-bytes _ _ _)
+held-feed b piece h w = rw (w, formed b w .holds) (ap (outcome _ _) (sym (encode-decode b h w)) ∙ in-bytes _ _ _)
 
-pub held-finish : (r out : List ℕ) → wellFormed r ≡ true → finishOutcome r out ≡ lentFinishOutcome (decode r) out
+pub held-finish : (b out : List ℕ) → wellFormed b ≡ true → finishOutcome b out ≡ lentFinishOutcome (decode b) out
 unfolding finishOutcome finishRefusals recordRefusal lentFinishOutcome lentFinishRefusals keptRefusal
-held-finish r out w = rw (w, formed r w .holds)
+held-finish b out w = rw (w, formed b w .holds)

@@ -9,29 +9,22 @@ use native.Mathlib.Omega.{arith}
 use lib.ListN.{length, replicate, length-append}
 use borrow.Author.Tests.{lt-ltb, le-ltb}
 use Rattle.hash_definition.specs.declared.Kept.{Kept}
-use Rattle.hash_definition.specs.declared.Lent.{Lent}
 use Rattle.definition.specs.Luffa.{bytesAt, luffa}
 use Rattle.definition.specs.Buffer.{overwrite, joined}
 use Rattle.definition.specs.Refusal.{LONG, pick, firstOf, known, widthRefusal, outRefusal, whenDone}
 use Rattle.hash_definition.specs.Record.{limit, wellKept, started, fed, finished}
-use Rattle.hash_definition.specs.Calls.{Outcome, outcome, longRefusal, digestRefusals, digestOutcome}
+use Rattle.hash_definition.specs.Calls.{outcome, longRefusal, digestRefusals, digestOutcome}
 use Rattle.hash_definition.specs.Lent.{lentOutcome, keptRefusal, lentStartRefusals, lentFeedRefusals, lentFinishRefusals, lentStartOutcome, lentFeedOutcome, lentFinishOutcome}
-use Rattle.hash_definition.proofs.Feeding.{keptOf, kept-finished, well-kept, fed-well, fed-count, fed-fed, fed-empty, Fed, feedEach, kept-sound, feed-each}
-
--- an accepted call and the working state or the buffer that it leaves
-abbrev pub left : Kept → Lent
-left k = record { number = 0; kept = k }
-
-abbrev pub done : List ℕ → Outcome
-done b = record { number = 0; buffer = b }
+use Rattle.hash_definition.specs.Said.{done, taken, lentFeedAll, LentDemand2}
+use Rattle.hash_definition.proofs.Feeding.{keptOf, kept-finished, well-kept, fed-well, fed-count, fed-fed, fed-empty, kept-sound, feed-each}
 
 -- a known code: the working state to begin with, whatever stood there
-lent-start-done : (code : ℕ) (k : Kept) → known code ≡ true → lentStartOutcome code k ≡ left (started code)
+lent-start-done : (code : ℕ) (k : Kept) → known code ≡ true → lentStartOutcome code k ≡ taken (started code)
 unfolding lentStartOutcome lentOutcome lentStartRefusals widthRefusal firstOf pick whenDone
 lent-start-done code k e = rw e
 
 -- a well formed working state and a piece within the limit: accepted
-pub lent-feed-done : (k : Kept) (p : List ℕ) → wellKept k ≡ true → k .count + length p ≤ limit → lentFeedOutcome k p ≡ left (fed k p)
+pub lent-feed-done : (k : Kept) (p : List ℕ) → wellKept k ≡ true → k .count + length p ≤ limit → lentFeedOutcome k p ≡ taken (fed k p)
 unfolding lentFeedOutcome lentOutcome lentFeedRefusals keptRefusal longRefusal firstOf pick whenDone
 lent-feed-done k p w h = rw (w, le-ltb limit (k .count + length p) h)
 
@@ -42,7 +35,7 @@ unfolding lentFeedOutcome lentOutcome lentFeedRefusals keptRefusal longRefusal f
 lent-feed-long k p w h = rw (w, lt-ltb limit (k .count + length p) h)
 
 -- an output buffer that is long enough: the digest
-lent-finish-done : (k : Kept) (out : List ℕ) → wellKept k ≡ true → bytesAt (k .code) ≤ length out
+pub lent-finish-done : (k : Kept) (out : List ℕ) → wellKept k ≡ true → bytesAt (k .code) ≤ length out
     → lentFinishOutcome k out ≡ done (overwrite (finished k) out)
 unfolding lentFinishOutcome outcome lentFinishRefusals keptRefusal outRefusal firstOf pick whenDone
 lent-finish-done k out w h = rw (w, le-ltb (length out) (bytesAt (k .code)) h)
@@ -72,30 +65,19 @@ lent-twice k y z w l h =
       lent-feed-done (fed k y) z (fed-well k y w l a) (omega (arith, fed-count k y)),
       lent-feed-done k (y ++ z) w (omega (arith, length-append y z)),
     )
-    (ap left (fed-fed k y z l))
+    (ap taken (fed-fed k y z l))
 
 -- the empty piece leaves a well formed working state as it is
-pub lent-empty : (k : Kept) → wellKept k ≡ true → length (k .pending) ≡ 32 → lentFeedOutcome k [] ≡ left k
-lent-empty k w l = lent-feed-done k [] w (omega (arith, well-kept k w .count-le)) ∙ ap left (fed-empty k w l)
+pub lent-empty : (k : Kept) → wellKept k ≡ true → length (k .pending) ≡ 32 → lentFeedOutcome k [] ≡ taken k
+lent-empty k w l = lent-feed-done k [] w (omega (arith, well-kept k w .count-le)) ∙ ap taken (fed-empty k w l)
 
--- each piece fed to the working state as the piece before left it
-abbrev pub lentFeedAll : Kept → (pieces : List (List ℕ)) → Fed Kept
-lentFeedAll = feedEach (λ k p. lentFeedOutcome k p .number) (λ k p. lentFeedOutcome k p .kept)
-
--- Demand 2, for a code, a working state, the pieces of a message and an output buffer: starting is accepted, feeding each piece in turn is
--- accepted each time, and finishing does what digesting the message at once does.
-pub record LentDemand2 (code : ℕ) (k : Kept) (ps : List (List ℕ)) (out : List ℕ) : Type 0 where
-  pub started : lentStartOutcome code k .number ≡ 0
-  pub fed : lentFeedAll (lentStartOutcome code k .kept) ps .numbers ≡ replicate (length ps) 0
-  pub finished : lentFinishOutcome (lentFeedAll (lentStartOutcome code k .kept) ps .held) out ≡ digestOutcome code (joined ps) out
-
--- it holds for every known code, whatever stood in the struct, every message of at most 2^61 - 1 bytes in any pieces, empty ones too, and every
+-- Demand 2 holds for every known code, whatever stood in the struct, every message of at most 2^61 - 1 bytes in any pieces, empty ones too, and every
 -- output buffer that has room for the digest
 pub lent-demand2 : (code : ℕ) (k : Kept) (ps : List (List ℕ)) (out : List ℕ)
     → known code ≡ true → length (joined ps) ≤ limit → bytesAt code ≤ length out → LentDemand2 code k ps out
 lent-demand2 code k ps out e h l =
     let s = lent-start-done code k e in
-    let f : lentFeedAll (started code) ps ≡ record { numbers = replicate (length ps) 0; held = keptOf code (joined ps) } =
+    let f : lentFeedAll (started code) ps ≡ record { numbers = replicate (length ps) 0; last = keptOf code (joined ps) } =
     feed-each (λ k p. lentFeedOutcome k p .number) (λ k p. lentFeedOutcome k p .kept) (λ k. k)
     (λ k p s i. rw (lent-feed-done k p (s .well) i) (refl, refl)) code ps e h in
     record {

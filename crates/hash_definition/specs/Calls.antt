@@ -1,5 +1,6 @@
--- The outcome of each call on messages and hash records: document 01, "The kept hash record" and refusals 1 to 4. An outcome is the answer's
--- number and the buffer that was lent for writing, as it is at the end.
+-- The outcome of each call on messages and hash records: document 01, "The kept hash record", its sentence on the answers of start, feed, finish
+-- and the one-call digest, and "Refusal numbers", 1 to 4. An outcome is the answer's number and the buffer that was lent for writing, as it
+-- is at the end.
 use Prim.Native.Nat.{ℕ, _+_}
 use mathlib.Core.Bool.{not}
 use mathlib.Core.List.{List, [], _∷_}
@@ -10,43 +11,53 @@ use Rattle.definition.specs.Buffer.{overwrite}
 use Rattle.definition.specs.Refusal.{Refusal, RECORD, LONG, firstOf, whenDone, widthRefusal, outRefusal}
 use Rattle.hash_definition.specs.Record.{recordLength, limit, encode, decode, wellFormed, started, fed, finished}
 
+-- "Start, feed, finish and the one-call digest answer a refusal number"
 pub record Outcome : Type 0 where
   pub number : ℕ
   pub buffer : List ℕ
 
--- a refused call alters nothing
-unfoldable pub outcome : List Refusal → (done before : List ℕ) → Outcome
-outcome rs done before = record { number = firstOf rs; buffer = whenDone (firstOf rs) done before }
+-- "A refusal writes nothing": the buffer as it is after a call that is done, or as before
+unfoldable pub outcome : List Refusal → (after before : List ℕ) → Outcome
+outcome rs after before = record { number = firstOf rs; buffer = whenDone (firstOf rs) after before }
 
--- 4: bytes so far plus this piece pass 2^61 - 1
-unfoldable pub longRefusal : (count piece : ℕ) → Refusal
-longRefusal count piece = (LONG, ltb limit (count + piece))
+-- 4: "bytes so far plus this piece pass 2^61 - 1"
+unfoldable pub longRefusal : (count pieceLength : ℕ) → Refusal
+longRefusal count pieceLength = (LONG, ltb limit (count + pieceLength))
 
--- 3: the record is not well formed
-unfoldable pub recordRefusal : List ℕ → Refusal
-recordRefusal r = (RECORD, not (wellFormed r))
+-- 3: "hash record not well formed"
+unfoldable pub recordRefusal : (record' : List ℕ) → Refusal
+recordRefusal record' = (RECORD, not (wellFormed record'))
 
-unfoldable pub digestRefusals : (code message out : ℕ) → List Refusal
-digestRefusals code message out = widthRefusal code ∷ outRefusal (bytesAt code) out ∷ longRefusal 0 message ∷ []
+-- 3: "for start, buffer not 208 bytes"
+unfoldable pub bufferRefusal : (bufferLength : ℕ) → Refusal
+bufferRefusal bufferLength = (RECORD, not (eqb bufferLength recordLength))
 
-unfoldable pub startRefusals : (code record' : ℕ) → List Refusal
-startRefusals code record' = widthRefusal code ∷ (RECORD, not (eqb record' recordLength)) ∷ []
+-- each call's refusals in their order: "Where several hold, the lowest number is given"
+unfoldable pub digestRefusals : (code messageLength outLength : ℕ) → List Refusal
+digestRefusals code messageLength outLength =
+    widthRefusal code ∷ outRefusal (bytesAt code) outLength ∷ longRefusal 0 messageLength ∷ []
 
-unfoldable pub feedRefusals : (record' : List ℕ) → (piece : ℕ) → List Refusal
-feedRefusals r piece = recordRefusal r ∷ longRefusal (decode r .count) piece ∷ []
+unfoldable pub startRefusals : (code bufferLength : ℕ) → List Refusal
+startRefusals code bufferLength = widthRefusal code ∷ bufferRefusal bufferLength ∷ []
 
-unfoldable pub finishRefusals : (record' : List ℕ) → (out : ℕ) → List Refusal
-finishRefusals r out = recordRefusal r ∷ outRefusal (bytesAt (decode r .code)) out ∷ []
+unfoldable pub feedRefusals : (record' : List ℕ) → (pieceLength : ℕ) → List Refusal
+feedRefusals record' pieceLength = recordRefusal record' ∷ longRefusal (decode record' .count) pieceLength ∷ []
 
+-- "In finish, 2 is judged only when the record is well formed; a record with an unknown code is refused 3"
+unfoldable pub finishRefusals : (record' : List ℕ) → (outLength : ℕ) → List Refusal
+finishRefusals record' outLength = recordRefusal record' ∷ outRefusal (bytesAt (decode record' .code)) outLength ∷ []
+
+-- "a digest stands in the first bytes of the output buffer and the bytes after it are untouched"
 unfoldable pub digestOutcome : (code : ℕ) → (message out : List ℕ) → Outcome
 digestOutcome code message out =
     outcome (digestRefusals code (length message) (length out)) (overwrite (luffa code message) out) out
 
-unfoldable pub startOutcome : (code : ℕ) → (record' : List ℕ) → Outcome
-startOutcome code r = outcome (startRefusals code (length r)) (encode (started code)) r
+unfoldable pub startOutcome : (code : ℕ) → (buffer : List ℕ) → Outcome
+startOutcome code buffer = outcome (startRefusals code (length buffer)) (encode (started code)) buffer
 
 unfoldable pub feedOutcome : (record' piece : List ℕ) → Outcome
-feedOutcome r piece = outcome (feedRefusals r (length piece)) (encode (fed (decode r) piece)) r
+feedOutcome record' piece = outcome (feedRefusals record' (length piece)) (encode (fed (decode record') piece)) record'
 
+-- "Finish reads the record only": what is lent for writing is the output buffer
 unfoldable pub finishOutcome : (record' out : List ℕ) → Outcome
-finishOutcome r out = outcome (finishRefusals r (length out)) (overwrite (finished (decode r)) out) out
+finishOutcome record' out = outcome (finishRefusals record' (length out)) (overwrite (finished (decode record')) out) out

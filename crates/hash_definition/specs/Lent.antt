@@ -1,6 +1,6 @@
--- The outcome of each call over a working state that the caller lends: document 01, "The kept hash record", last paragraph. The working state
--- is a `Kept` in memory in place of its 208 bytes, and the calls obey the same rules. An outcome is the answer's number and what was lent for
--- writing, as it is at the end.
+-- The outcome of each call over a working state that the caller lends: document 01, "The kept hash record", last paragraph, "Within one program
+-- the same is wanted over a working state that the caller lends, with feeding altering it where it stands". The working state is a `Kept` in
+-- memory in place of its 208 bytes. An outcome is the answer's number and what was lent for writing, as it is at the end.
 use Prim.Native.Nat.{ℕ}
 use mathlib.Core.Bool.{not}
 use mathlib.Core.List.{List, [], _∷_}
@@ -13,23 +13,25 @@ use Rattle.definition.specs.Refusal.{Refusal, RECORD, firstOf, widthRefusal, ou
 use Rattle.hash_definition.specs.Record.{wellKept, started, fed, finished}
 use Rattle.hash_definition.specs.Calls.{Outcome, outcome, longRefusal}
 
--- a refused call alters nothing
-unfoldable pub lentOutcome : List Refusal → (done before : Kept) → Lent
-lentOutcome rs done before = record { number = firstOf rs; kept = whenDone (firstOf rs) done before }
+-- "A refusal writes nothing"
+unfoldable pub lentOutcome : List Refusal → (after before : Kept) → Lent
+lentOutcome rs after before = record { number = firstOf rs; kept = whenDone (firstOf rs) after before }
 
 -- 3: the working state is not well formed
 unfoldable pub keptRefusal : Kept → Refusal
 keptRefusal k = (RECORD, not (wellKept k))
 
+-- "It obeys the same rules": the refusals in the order of the byte form
 unfoldable pub lentStartRefusals : (code : ℕ) → List Refusal
 lentStartRefusals code = widthRefusal code ∷ []
 
-unfoldable pub lentFeedRefusals : Kept → (piece : ℕ) → List Refusal
-lentFeedRefusals k piece = keptRefusal k ∷ longRefusal (k .count) piece ∷ []
+unfoldable pub lentFeedRefusals : Kept → (pieceLength : ℕ) → List Refusal
+lentFeedRefusals k pieceLength = keptRefusal k ∷ longRefusal (k .count) pieceLength ∷ []
 
-unfoldable pub lentFinishRefusals : Kept → (out : ℕ) → List Refusal
-lentFinishRefusals k out = keptRefusal k ∷ outRefusal (bytesAt (k .code)) out ∷ []
+unfoldable pub lentFinishRefusals : Kept → (outLength : ℕ) → List Refusal
+lentFinishRefusals k outLength = keptRefusal k ∷ outRefusal (bytesAt (k .code)) outLength ∷ []
 
+-- and what is done is what the byte form does with the record that is held
 unfoldable pub lentStartOutcome : (code : ℕ) → Kept → Lent
 lentStartOutcome code k = lentOutcome (lentStartRefusals code) (started code) k
 

@@ -1,29 +1,22 @@
-// Whether what a kept hash record holds is well formed (document 01, "The kept hash record"), and what the calls over messages and records
-// share: the refusal numbers and the house limit.
+// Whether what a kept hash record holds is well formed (document 01, "The kept hash record"), and refusals 3 and 4, which the calls over
+// messages, records and lent working states share.
 ghost use mathlib.Core.Path.{_≡_};
+ghost use mathlib.Core.List.{[], _∷_};
 ghost use lib.ListN.{drop};
 ghost use Rattle.definition.specs.Block.{wordsOf, wordsOfAll};
-ghost use Rattle.definition.specs.Start.{blockCount};
+ghost use Rattle.definition.specs.Width.{blockCount};
 ghost use Rattle.definition.specs.State.{five};
+ghost use Rattle.definition.specs.Refusal.{firstOf};
 ghost use Rattle.hash_definition.specs.Record.{allZero, wellKept};
+ghost use Rattle.hash_definition.specs.Calls.{longRefusal};
+ghost use Rattle.hash_definition.specs.Lent.{keptRefusal};
 use definition::Block;
 use definition::State;
 use definition::Width;
 use hash_definition::Kept;
 
-// The refusal numbers of document 01.
-pub const DONE: u32 = 0;
-
-pub const WIDTH: u32 = 1;
-
-pub const OUT: u32 = 2;
-
-pub const RECORD: u32 = 3;
-
-pub const LONG: u32 = 4;
-
 // The house limit on the bytes of a message, 2^61 - 1.
-pub const LIMIT: usize = 2305843009213693951;
+const LIMIT: u64 = 2305843009213693951;
 
 // Whether all bytes of a slice are zero.
 pub fn all_zero(s: &[u8]) -> bool
@@ -53,33 +46,42 @@ fn unused_zero(w: Width, s: State) -> bool
     let h3 = s.h3;
     let h4 = s.h4;
     match w {
-        Width::W3 => {
-            if !zero_block(h3) {
-                return false;
-            }
-            zero_block(h4)
-        }
+        Width::W3 => zero_block(h3) & zero_block(h4),
         Width::W4 => zero_block(h4),
         Width::W5 => true,
     }
 }
 
 // Whether what a record holds is well formed.
-pub fn well_kept(k: Kept) -> bool
+fn well_kept(k: Kept) -> bool
     ensures { λ r. ⌜ r ≡ wellKept k ⌝ }
 {
     let code = k.code;
-    if !codes::known(code) {
-        return false;
-    }
     let s = k.state;
-    if !unused_zero(codes::width(code), s) {
-        return false;
-    }
     let p = k.pending;
     let pos = (k.count % 32) as usize;
-    if !all_zero(&p[pos..]) {
-        return false;
+    let known = codes::known(code);
+    let unused = unused_zero(codes::width(code), s);
+    let after = all_zero(&p[pos..]);
+    known & unused & after & (k.count <= LIMIT)
+}
+
+// 3: what a record holds isn't well formed.
+pub fn form(k: Kept) -> u32
+    ensures { λ r. ⌜ r ≡ firstOf (keptRefusal k ∷ []) ⌝ }
+{
+    refusals::when(!well_kept(k), refusals::RECORD)
+}
+
+// 4: bytes so far plus this piece pass the limit. Nothing is added, so no sum wraps.
+pub fn long(count: u64, piece: usize) -> u32
+    ensures { λ r. ⌜ r ≡ firstOf (longRefusal count piece ∷ []) ⌝ }
+{
+    if LIMIT < count {
+        return refusals::LONG;
     }
-    k.count <= LIMIT as u64
+    if LIMIT - count < piece as u64 {
+        return refusals::LONG;
+    }
+    refusals::DONE
 }

@@ -15,8 +15,8 @@ use Rattle.definition.specs.Round.{chain}
 use Rattle.definition.specs.Padding.{blocks, rest}
 use Rattle.definition.specs.State.{blocksIn, stateOf}
 use Rattle.definition.specs.Buffer.{overwriteAt}
-use Rattle.definition.specs.Luffa.{widthAt}
-use Rattle.hash_definition.specs.Record.{allZero, filled, pendingCount, pendingBytes, wellKept, fed}
+use Rattle.definition.specs.Width.{widthAt}
+use Rattle.hash_definition.specs.Record.{allZero, withZeros, pendingCount, pendingBytes, wellKept, fed}
 use Rattle.definition.proofs.Chain.{chain-append, length-blocksIn, blocks-of-chain}
 use Rattle.definition.proofs.Padding.{blocks-none, blocks-append, rest-short, rest-feed, rest-whole}
 use Rattle.hash_definition.proofs.Feeding.{zeros, well-kept}
@@ -42,9 +42,9 @@ drop-zeros (suc n) zero = zero-by 0 (0 - suc n) (omega arith)
 drop-zeros (suc n) (suc m) = drop-zeros n m ∙ zero-by (m - n) (suc m - suc n) (omega arith)
 
 -- bytes over zeros
-zero-paste : (r : List ℕ) → overwriteAt 0 r (replicate 32 0) ≡ filled r
-unfolding overwriteAt filled
-zero-paste r = rw (drop-zeros (0 + length r) 32, zero-add (length r))
+zero-paste : (x : List ℕ) → overwriteAt 0 x (replicate 32 0) ≡ withZeros x
+unfolding overwriteAt withZeros
+zero-paste x = rw (drop-zeros (0 + length x) 32, zero-add (length x))
 
 -- the zeros after the pending bytes and a piece
 after-piece : (p piece : List ℕ) (pos : ℕ) → length p ≡ 32 → allZero (drop pos p) ≡ true → pos + length piece ≤ 32
@@ -65,7 +65,7 @@ pub stays : (k : Kept) (piece : List ℕ) → length (k .pending) ≡ 32 → wel
       count = k .count + length piece;
     }
     ≡ fed k piece
-unfolding fed pendingBytes pendingCount overwriteAt filled chain
+unfolding fed pendingBytes pendingCount overwriteAt withZeros chain
 stays k piece e h n =
     let pos : ℕ = k .count % 32 in
     let p : List ℕ = k .pending in

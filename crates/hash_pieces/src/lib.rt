@@ -77,20 +77,15 @@ fn fed(k: Kept, piece: &[u8]) -> Kept
 pub fn fed_answer(k: Kept, piece: &[u8]) -> Lent
     ensures { λ r. ⌜ r ≡ lentFeedOutcome k (now (piece .entry)) ⌝ }
 {
-    if !hash_kept::well_kept(k) {
+    let number = refusals::first(hash_kept::form(k), hash_kept::long(k.count, piece.len()));
+    if number != refusals::DONE {
         return Lent {
-            number: hash_kept::RECORD,
-            kept: k,
-        };
-    }
-    if (hash_kept::LIMIT as u64) - k.count < piece.len() as u64 {
-        return Lent {
-            number: hash_kept::LONG,
+            number: number,
             kept: k,
         };
     }
     Lent {
-        number: hash_kept::DONE,
+        number: refusals::DONE,
         kept: fed(k, piece),
     }
 }

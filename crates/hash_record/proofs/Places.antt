@@ -13,9 +13,10 @@ use Rattle.definition.specs.Word.{wordOf, bytesOf, bytesOfAll}
 use Rattle.definition.specs.Block.{blockOf, wordAt, wordsOf, wordsOfAll}
 use Rattle.definition.specs.State.{five}
 use Rattle.definition.specs.Buffer.{overwriteAt}
+use Rattle.definition.specs.Refusal.{pick}
 use Rattle.bytes.specs.Total.{blockWhen, firstBlock, wordWhen, firstWord, writeAt}
 use Rattle.hash_definition.specs.Record.{recordLength, countWords, encode}
-use Rattle.hash_record.specs.Reading.{writeWhen, written}
+use Rattle.hash_record.specs.Reading.{written}
 use Rattle.definition.proofs.Word.{bytes-of-word, length-bytes}
 use Rattle.bytes.proofs.Total.{write-at, writeAt-more}
 use Rattle.bytes.proofs.Parts.{part-rest}
@@ -85,5 +86,5 @@ all-parts k b h e =
 
 -- a buffer of 208 bytes is written whole
 pub written-whole : (k : Kept) (b : List ℕ) → length b ≡ recordLength → written k b ≡ encode k
-unfolding written writeWhen
+unfolding written pick
 written-whole k b h = rw (eq-eqb (length b) recordLength h)

@@ -1,1 +1,2 @@
+-- What one reading of a record finds, and what is written into it.
 pub mod Reading

@@ -1,6 +1,5 @@
 // The 208 bytes of a kept hash record: read and written. Lengths and places stand here alone (document 01, "The kept hash record").
 ghost use mathlib.Core.Path.{_≡_};
-ghost use mathlib.Core.Bool.{false};
 ghost use lib.ListN.{length};
 ghost use Rattle.hash_definition.specs.Record.{recordLength, decode as decodeOf};
 ghost use Rattle.hash_record.specs.Reading.{nothing as nothingOf, reading, written};
@@ -15,12 +14,6 @@ const STATE_AT: usize = 8;
 const PENDING_AT: usize = 168;
 
 const COUNT_AT: usize = 200;
-
-// What one reading of a record finds: whether its length and its reserved bytes are right, and then what it holds.
-pub struct Reading {
-    pub framed: bool,
-    pub kept: Kept,
-}
 
 // A byte as a number.
 fn wide(x: u8) -> usize
@@ -72,29 +65,26 @@ fn decode(b: &[u8]) -> Kept
     }
 }
 
-// Nothing held: what a reading gives where the frame isn't right.
-fn nothing() -> Reading
-    ensures { λ r. ⌜ r ≡ record { framed = false; kept = nothingOf } ⌝ }
+// Nothing held: what a reading gives where the length or the reserved bytes aren't right. Its code is no code, so it isn't well formed.
+fn nothing() -> Kept
+    ensures { λ r. ⌜ r ≡ nothingOf ⌝ }
 {
-    Reading {
-        framed: false,
-        kept: Kept {
-            code: 0,
-            state: State {
-                h0: blocks::zero(),
-                h1: blocks::zero(),
-                h2: blocks::zero(),
-                h3: blocks::zero(),
-                h4: blocks::zero(),
-            },
-            pending: [0u8; 32],
-            count: 0,
+    Kept {
+        code: 0,
+        state: State {
+            h0: blocks::zero(),
+            h1: blocks::zero(),
+            h2: blocks::zero(),
+            h3: blocks::zero(),
+            h4: blocks::zero(),
         },
+        pending: [0u8; 32],
+        count: 0,
     }
 }
 
-// A record, read once.
-pub fn read(b: &[u8]) -> Reading
+// A record, read once: what it holds, where its length and its reserved bytes are right.
+pub fn read(b: &[u8]) -> Kept
     ensures { λ r. ⌜ r ≡ reading (now (b .entry)) ⌝ }
 {
     if b.len() != LENGTH {
@@ -103,10 +93,7 @@ pub fn read(b: &[u8]) -> Reading
     if !hash_kept::all_zero(&b[1..STATE_AT]) {
         return nothing();
     }
-    Reading {
-        framed: true,
-        kept: decode(b),
-    }
+    decode(b)
 }
 
 // What a record holds, written into its 208 bytes; nothing is written into a buffer of another length.

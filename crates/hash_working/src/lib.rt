@@ -23,14 +23,15 @@ pub fn started(code: usize) -> Kept
 pub fn started_answer(code: usize, k: Kept) -> Lent
     ensures { λ r. ⌜ r ≡ lentStartOutcome code k ⌝ }
 {
-    if !codes::known(code) {
+    let number = refusals::width(code);
+    if number != refusals::DONE {
         return Lent {
-            number: hash_kept::WIDTH,
+            number: number,
             kept: k,
         };
     }
     Lent {
-        number: hash_kept::DONE,
+        number: refusals::DONE,
         kept: started(code),
     }
 }
@@ -39,13 +40,13 @@ pub fn started_answer(code: usize, k: Kept) -> Lent
 pub fn finished_answer(k: Kept, out: &mut [u8]) -> u32
     ensures { λ r. ⌜ record { number = r; buffer = now (out .exit) } ≡ lentFinishOutcome k (now (out .entry)) ⌝ }
 {
-    if !hash_kept::well_kept(k) {
-        return hash_kept::RECORD;
-    }
     let code = k.code;
     let words = codes::words(code);
-    if out.len() < 4 * words {
-        return hash_kept::OUT;
+    let form = hash_kept::form(k);
+    let room = refusals::out(4 * words, out.len());
+    let number = refusals::first(form, room);
+    if number != refusals::DONE {
+        return number;
     }
     let w = codes::width(code);
     let s = k.state;
@@ -57,5 +58,5 @@ pub fn finished_answer(k: Kept, out: &mut [u8]) -> u32
     let pos = (k.count % 32) as usize;
     let d = rounds::last::absorb_last(w, c, &p[..pos]);
     squeeze::squeeze(w, d, words, out);
-    hash_kept::DONE
+    refusals::DONE
 }

@@ -13,7 +13,7 @@ use Rattle.definition.specs.Word.{rotl}
 use Rattle.definition.specs.Constant.{constantsFrom, constants}
 use Rattle.definition.specs.Permutation.{tweak, steps, permute}
 use Rattle.definition.specs.Round.{permuteFrom}
-use Rattle.definition.specs.Start.{blockCount}
+use Rattle.definition.specs.Width.{blockCount}
 use Rattle.definition.specs.State.{five, blocksIn, stateOf}
 use Rattle.permutation.specs.Lanes.{lane, putLane, lanesOf, stepAt, constantAt, stepped, after, stepFifth, fifthAfter, allAfter, hasFifth}
 

@@ -78,8 +78,8 @@ pub fn start(w: Width) -> State
     blocks::used(w, starting_variables())
 }
 
-// The round function: injection, then permutation.
-pub fn round(w: Width, s: State, m: Block) -> State
+// The round function: injection, then permutation. Private, so that counted_round alone can run one.
+fn round(w: Width, s: State, m: Block) -> State
     ensures { λ r. ⌜ r ≡ stateOf (roundOf w (blocksIn w s) m) ⌝ }
 {
     permutation::permute(w, injection::inject(w, s, m))

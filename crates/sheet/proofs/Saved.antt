@@ -6,7 +6,7 @@ use Prim.Native.Nat.{ℕ, zero, suc, _+_, _*_, _^_, _<_, _≤_}
 use native.Mathlib.Omega.{arith}
 use lib.ListN.{length, replicate, length-replicate}
 use Rattle.definition.specs.Start.{start}
-use Rattle.definition.specs.Luffa.{widthAt}
+use Rattle.definition.specs.Width.{widthAt}
 use Rattle.definition.specs.Final.{finalRounds}
 use Rattle.definition.specs.Buffer.{overwriteAt, overwrite}
 use Rattle.definition.specs.Refusal.{pick, firstOf, whenDone}

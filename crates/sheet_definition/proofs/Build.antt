@@ -11,7 +11,7 @@ use Rattle.definition.specs.declared.Width.{Width}
 use Rattle.definition.specs.Round.{chain}
 use Rattle.definition.specs.Padding.{blocks, blocksTo}
 use Rattle.definition.specs.Start.{start}
-use Rattle.definition.specs.Luffa.{widthAt}
+use Rattle.definition.specs.Width.{widthAt}
 use Rattle.definition.specs.Buffer.{overwrite}
 use Rattle.definition.specs.Refusal.{First, NoneHolds, firstOf, whenDone, widthRefusal, outRefusal}
 use Rattle.sheet_definition.specs.Sheet.{World, markWords, q, buildRounds}
@@ -38,27 +38,27 @@ module _ (code : ℕ) (sheet : List ℕ) (n : ℕ) (marks out : List ℕ) where
   abbrev first : List ℕ
   first = markOf (start (widthAt code))
 
-  abbrev begun : List ℕ
-  begun = overwrite first marks
+  abbrev withFirst : List ℕ
+  withFirst = overwrite first marks
 
   abbrev work : Worked
-  work = worked code n sheet begun 0
+  work = worked code n sheet withFirst 0
 
   abbrev outcome : SheetOutcome
   outcome = buildOutcome code sheet n marks out
 
-  begun-mark : markAt begun 0 ≡ first
+  withFirst-mark : markAt withFirst 0 ≡ first
   unfolding markAt
-  begun-mark = read-written 0 markWords first marks (length-mark (start (widthAt code))) (omega arith)
+  withFirst-mark = read-written 0 markWords first marks (length-mark (start (widthAt code))) (omega arith)
 
-  begun-true : TrueMark code sheet begun 0
+  withFirst-true : TrueMark code sheet withFirst 0
   unfolding TrueMark stateAfter chain blocks blocksTo
-  begun-true =
+  withFirst-true =
       let w : Width = widthAt code in
-      ap (stateFrom w) begun-mark ∙ state-of-mark w (start w) (length-start w)
+      ap (stateFrom w) withFirst-mark ∙ state-of-mark w (start w) (length-start w)
 
-  length-begun : Fits found out → length begun ≡ length marks
-  length-begun f = length-overwriteAt 0 first marks (omega (arith, length-mark (start (widthAt code)), f .marks-room))
+  length-withFirst : Fits found out → length withFirst ≡ length marks
+  length-withFirst f = length-overwriteAt 0 first marks (omega (arith, length-mark (start (widthAt code)), f .marks-room))
 
   -- the number is that of the first refusal, refused or done
   pub build-refused : {k : ℕ} → k ≡ firstOf (buildRefusals (lengthsOf found out)) → (k ≡ 0 → ⊥) → refusedWith found out k 0 ≡ outcome
@@ -98,20 +98,20 @@ module _ (code : ℕ) (sheet : List ℕ) (n : ℕ) (marks out : List ℕ) where
   unfolding refusedWith doneWith left
   build-made = by-build (λ o. o .answer .number ≡ 0 → Made code 0 out o) (λ z f e. made f) (λ k z e. absurd (omega arith))
     where
-      zero-true : (k : ℕ) → k ≤ 0 → TrueMark code sheet begun k
-      zero-true zero h = begun-true
+      zero-true : (k : ℕ) → k ≤ 0 → TrueMark code sheet withFirst k
+      zero-true zero h = withFirst-true
       zero-true (suc k) h = absurd (omega arith)
 
       first-written : Fits found out → markAt (work .marks) 0 ≡ first
       first-written f =
-          marks-kept 0 0 (work .marks) begun
-          (rewritten code n 0 sheet begun (omega arith) (omega (arith, length-begun f, f .marks-room)) .front) (omega arith)
-          ∙ begun-mark
+          marks-kept 0 0 (work .marks) withFirst
+          (rewritten code n 0 sheet withFirst (omega arith) (omega (arith, length-withFirst f, f .marks-room)) .before) (omega arith)
+          ∙ withFirst-mark
 
       made : Fits found out → Made code 0 out (doneWith n sheet work 0 out)
       made f =
           let m =
-          work-over code n 0 sheet sheet begun begun refl (λ k h. refl) zero-true (omega arith) (f .sheet-room) (omega (arith, length-begun f, f .marks-room))
+          work-over code n 0 sheet sheet withFirst withFirst refl (λ k h. refl) zero-true (omega arith) (f .sheet-room) (omega (arith, length-withFirst f, f .marks-room))
           in
           record { marks-true = m .0; written = from-first (m .1); digest = ap (λ (d : List ℕ). overwrite d out) (m .2) }
         where
@@ -133,14 +133,14 @@ module _ (code : ℕ) (sheet : List ℕ) (n : ℕ) (marks out : List ℕ) where
     where
       kept : Fits found out → BuildStays (doneWith n sheet work 0 out)
       kept f =
-          let b : length begun ≡ length marks = length-begun f in
-          let a : Rewritten n 0 (work .marks) begun = rewritten code n 0 sheet begun (omega arith) (omega (arith, f .marks-room)) in
+          let b : length withFirst ≡ length marks = length-withFirst f in
+          let a : Rewritten n 0 (work .marks) withFirst = rewritten code n 0 sheet withFirst (omega arith) (omega (arith, f .marks-room)) in
           record {
             count-same = refl;
             sheet-same = refl;
             marks-size = a .size ∙ b;
-            out-size = length-overwriteAt 0 (work .digest) out (omega (arith, length-digest code n 0 sheet begun, f .out-room));
-            marks-behind = λ m h. a .back m h ∙ drop-overwriteAt 0 (markWords * (m + 1)) first marks (omega (arith, length-mark (start (widthAt code)))) (omega arith);
+            out-size = length-overwriteAt 0 (work .digest) out (omega (arith, length-digest code n 0 sheet withFirst, f .out-room));
+            marks-behind = λ m h. a .behind m h ∙ drop-overwriteAt 0 (markWords * (m + 1)) first marks (omega (arith, length-mark (start (widthAt code)))) (omega arith);
           }
 
   pub build-rounds : Rounds (outcome .answer) (buildRounds code n) 0
@@ -148,7 +148,7 @@ module _ (code : ℕ) (sheet : List ℕ) (n : ℕ) (marks out : List ℕ) where
   build-rounds =
       by-build (λ o. Rounds (o .answer) (buildRounds code n) 0)
       (λ z f. record {
-        when-done = λ e. zero-add (work .rounds) ∙ rounds-from-mark code n 0 sheet begun (omega arith) (f .sheet-room) ∙ sym (build-from-start code n);
+        when-done = λ e. zero-add (work .rounds) ∙ rounds-from-mark code n 0 sheet withFirst (omega arith) (f .sheet-room) ∙ sym (build-from-start code n);
         when-stale = λ e. absurd (omega arith);
         none = λ h i. absurd (h refl);
       })

@@ -49,8 +49,8 @@ without-last n marks h l =
       | yes e ↦ rw (zeroes n marks e) (
         record {
           size = length-overwriteAt i z marks (omega arith);
-          front = take-overwriteAt i (markWords * (q (n - 1) + 1)) z marks (omega arith) (omega arith);
-          back = λ d f. drop-overwriteAt i (markWords * (d + 1)) z marks (omega arith) (omega arith);
+          before = take-overwriteAt i (markWords * (q (n - 1) + 1)) z marks (omega arith) (omega arith);
+          behind = λ d f. drop-overwriteAt i (markWords * (d + 1)) z marks (omega arith) (omega arith);
         },
         λ m f g. let j : m ≡ q n = omega arith in rw j (read-written i markWords z marks s (omega arith)),
       )

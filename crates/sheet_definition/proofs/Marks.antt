@@ -15,10 +15,11 @@ use Rattle.definition.specs.declared.Width.the-variants.{W3, W4, W5}
 use Rattle.definition.specs.Block.{wordsOf, wordsOfAll}
 use Rattle.definition.specs.Round.{chain}
 use Rattle.definition.specs.Padding.{closing, padding, padded, blocksTo, blocks}
-use Rattle.definition.specs.Start.{blockCount, start}
+use Rattle.definition.specs.Width.{blockCount, widthAt}
+use Rattle.definition.specs.Start.{start}
 use Rattle.definition.specs.State.{five, blocksIn, stateOf}
 use Rattle.definition.specs.Buffer.{overwriteAt}
-use Rattle.definition.specs.Luffa.{widthAt, digestAfter, luffa}
+use Rattle.definition.specs.Luffa.{digestAfter, luffa}
 use Rattle.sheet_definition.specs.Sheet.{World, recordBytes, groupBytes, markWords, q, N, F, roundsFrom}
 use Rattle.sheet_definition.specs.Marks.{held, markAt, blockFrom, stateFrom, markOf, marksAfter, roundsAfter, worked, stateAfter, TrueMark, TrueMarks}
 use Rattle.definition.proofs.Chain.{chain-append, blocks-of-state, length-chain, length-start}
@@ -165,7 +166,7 @@ marks-after-work code n m sheet marks t h l r k e =
     let w : Width = widthAt code in
     let b : List Block = blocks (take (groupBytes * k) sheet) in
     elim (decLe k m) [
-      | yes d ↦ ap (stateFrom w) (marks-kept m k _ marks (rewritten code n m sheet marks h r .front) d) ∙ t k d
+      | yes d ↦ ap (stateFrom w) (marks-kept m k _ marks (rewritten code n m sheet marks h r .before) d) ∙ t k d
       | no d ↦ ap (stateFrom w) (mark-written code n m k sheet marks (t m (le-refl m)) (omega arith) e l r)
           ∙ state-of-mark w (chain w (start w) b) (length-chain w (start w) b (length-start w))
     ]

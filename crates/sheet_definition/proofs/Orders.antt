@@ -2,19 +2,18 @@
 -- and 0 exactly when none does.
 -- Assumes nothing.
 use mathlib.Core.Path.{_≡_, refl}
-use mathlib.Core.Logic.{_↔_}
 use mathlib.Core.Bool.{true}
 use mathlib.Core.List.{List, [], _∷_, _++_}
-use Prim.Native.Nat.{ℕ, suc}
+use Prim.Native.Nat.{ℕ}
 use native.Mathlib.Omega.{arith}
-use Rattle.definition.specs.Refusal.{Refusal, First, NoneHolds, WIDTH, OUT, SHEET, MARKS, PLACE, FULL, SIZE, CLAIM, STALE, firstOf, numbersOf, rising, widthRefusal, outRefusal}
+use Rattle.definition.specs.Refusal.{Refusal, Judged, WIDTH, OUT, SHEET, MARKS, PLACE, FULL, SIZE, CLAIM, STALE, numbersOf, rising, widthRefusal, outRefusal}
 use Rattle.sheet_definition.specs.Sheet.{World}
 use Rattle.sheet_definition.specs.Refusals.{lengthsOf, sheetRefusal, marksRefusal, placeRefusal, fullRefusal, sizeRefusal, claimRefusal, buildRefusals, changeRefusals, appendRefusals, dropRefusals}
 use Rattle.sheet_definition.specs.Save.{staleClaim}
 use Rattle.sheet_definition.specs.SheetCalls.{buildOutcome, Kind, Call, refusalsOf, saveOf, call}
 use Rattle.sheet_definition.specs.SheetCalls.Kind.{Change, Append, Drop}
 use Rattle.definition.proofs.Every.{every-append}
-use Rattle.definition.proofs.Refusals.{given-exactly, none-exactly}
+use Rattle.definition.proofs.Refusals.{judged}
 use Rattle.sheet_definition.proofs.Outcomes.{number-is}
 use Rattle.sheet_definition.proofs.Refused.{built-numbered}
 use Rattle.sheet_definition.proofs.Edits.{proper}
@@ -30,16 +29,6 @@ orderOf (Change place x) = WIDTH ∷ OUT ∷ SHEET ∷ MARKS ∷ PLACE ∷ SIZE 
 orderOf (Append x) = WIDTH ∷ OUT ∷ SHEET ∷ MARKS ∷ FULL ∷ SIZE ∷ CLAIM ∷ STALE ∷ []
 orderOf Drop = WIDTH ∷ OUT ∷ SHEET ∷ MARKS ∷ PLACE ∷ CLAIM ∷ STALE ∷ []
 
-pub build-order : (w : World) (out : List ℕ) → numbersOf (buildRefusals (lengthsOf w out)) ≡ WIDTH ∷ OUT ∷ SHEET ∷ MARKS ∷ []
-unfolding numbersOf buildRefusals widthRefusal outRefusal sheetRefusal marksRefusal
-build-order w out = refl
-
-pub save-order : (w : World) (k : Kind) (claim out : List ℕ) → numbersOf (allOf w (record { kind = k; claim = claim; out = out })) ≡ orderOf k
-unfolding saveOf refusalsOf changeRefusals appendRefusals dropRefusals numbersOf buildRefusals widthRefusal outRefusal sheetRefusal marksRefusal placeRefusal fullRefusal sizeRefusal claimRefusal orderOf
-save-order w (Change place x) claim out = refl
-save-order w (Append x) claim out = refl
-save-order w Drop claim out = refl
-
 -- "the lowest number is given"
 pub order-rising : (k : Kind) → rising (orderOf k) ≡ true
 unfolding rising orderOf
@@ -47,25 +36,25 @@ order-rising (Change place x) = refl
 order-rising (Append x) = refl
 order-rising Drop = refl
 
--- the number that a save answers
-module _ (w : World) (c : Call) where
-  is : call w c .answer .number ≡ firstOf (allOf w c)
-  unfolding call saveOf
-  is = number-is w (saveOf w c) (proper w c .numbered) (proper w c .earlier) (proper w c .answered)
+save-order : (w : World) (c : Call) (k : Kind) → numbersOf (allOf w (record { kind = k; claim = c .claim; out = c .out })) ≡ orderOf k
+unfolding saveOf refusalsOf changeRefusals appendRefusals dropRefusals numbersOf buildRefusals widthRefusal outRefusal sheetRefusal marksRefusal placeRefusal fullRefusal sizeRefusal claimRefusal orderOf
+save-order w c (Change place x) = refl
+save-order w c (Append x) = refl
+save-order w c Drop = refl
 
-  pub save-given : (k : ℕ) → (call w c .answer .number ≡ suc k) ↔ First (suc k) (allOf w c)
-  save-given k = rw is (given-exactly k (allOf w c))
+-- so each save is judged by its list, and a build by its own
+pub save-judged : (w : World) (c : Call) → Judged (call w c .answer .number) (allOf w c) (orderOf (c .kind))
+unfolding call saveOf
+save-judged w c =
+    let p = proper w c in
+    rw (← save-order w c (c .kind))
+    (judged (allOf w c) (every-append _ (saveOf w c .refusals) _ (p .numbered) (omega (arith, p .answered)))
+    (number-is w (saveOf w c) (p .numbered) (p .earlier) (p .answered)))
 
-  pub save-none : (call w c .answer .number ≡ 0) ↔ NoneHolds (allOf w c)
-  save-none = rw is (none-exactly (allOf w c) (every-append _ (saveOf w c .refusals) _ (proper w c .numbered) (omega (arith, proper w c .answered))))
-
--- and a build
-module _ (code : ℕ) (sheet : List ℕ) (n : ℕ) (marks out : List ℕ) where
-  abbrev found : World
-  found = record { code = code; n = n; sheet = sheet; marks = marks }
-
-  pub build-given : (k : ℕ) → (buildOutcome code sheet n marks out .answer .number ≡ suc k) ↔ First (suc k) (buildRefusals (lengthsOf found out))
-  build-given k = rw (build-number code sheet n marks out) (given-exactly k (buildRefusals (lengthsOf found out)))
-
-  pub build-none : (buildOutcome code sheet n marks out .answer .number ≡ 0) ↔ NoneHolds (buildRefusals (lengthsOf found out))
-  build-none = rw (build-number code sheet n marks out) (none-exactly (buildRefusals (lengthsOf found out)) (built-numbered (lengthsOf found out)))
+pub build-judged : (code : ℕ) (sheet : List ℕ) (n : ℕ) (marks out : List ℕ)
+    → Judged (buildOutcome code sheet n marks out .answer .number) (buildRefusals (lengthsOf (record { code = code; n = n; sheet = sheet; marks = marks }) out))
+    (WIDTH ∷ OUT ∷ SHEET ∷ MARKS ∷ [])
+unfolding numbersOf buildRefusals widthRefusal outRefusal sheetRefusal marksRefusal
+build-judged code sheet n marks out =
+    let l = lengthsOf (record { code = code; n = n; sheet = sheet; marks = marks }) out in
+    judged (buildRefusals l) (built-numbered l) (build-number code sheet n marks out)

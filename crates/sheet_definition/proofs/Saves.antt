@@ -14,7 +14,8 @@ use lib.Seq.{take-take, drop-drop}
 use borrow.Author.Tests.{not-false}
 use Rattle.definition.specs.declared.Width.{Width}
 use Rattle.definition.specs.Start.{start}
-use Rattle.definition.specs.Luffa.{widthAt, luffa}
+use Rattle.definition.specs.Width.{widthAt}
+use Rattle.definition.specs.Luffa.{luffa}
 use Rattle.definition.specs.Buffer.{overwrite, same}
 use Rattle.definition.specs.Refusal.{firstOf}
 use Rattle.sheet_definition.specs.Sheet.{World, recordBytes, groupBytes, markWords, q, checkRounds, roundsFrom}
@@ -148,8 +149,8 @@ module _ (w : World) (s : Save) (p : Proper w s) where
                 (omega (arith, length-digest (w .code) (s .edit .count) m (s .edit .sheet) (s .edit .marks), r .out-room));
             sheet-before = f .before;
             sheet-behind = f .behind;
-            marks-before = a .front ∙ b .front;
-            marks-behind = λ k h j. a .back k j ∙ b .back k h;
+            marks-before = a .before ∙ b .before;
+            marks-behind = λ k h j. a .behind k j ∙ b .behind k h;
           }
 
   -- so marks 0 to the group of the first record are as they were
@@ -185,7 +186,7 @@ module _ (w : World) (s : Save) (p : Proper w s) where
   made t f =
       let o =
       work-over (w .code) (s .edit .count) m (s .edit .sheet) (w .sheet) (s .edit .marks) (w .marks) (groups-stay f)
-      (λ k h. marks-kept m k (s .edit .marks) (w .marks) (f .marks .front) h)
+      (λ k h. marks-kept m k (s .edit .marks) (w .marks) (f .marks .before) h)
       (λ k h. t k (omega (arith, f .first-held)))
       (omega (arith, f .first-left)) (omega (arith, f .new-sheet-room, f .sheet-size)) (omega (arith, f .new-marks-room, f .marks .size))
       in
@@ -205,7 +206,7 @@ module _ (w : World) (s : Save) (p : Proper w s) where
       again : Fair w (s .edit) → Written (left (w .code) (accepted w s)) 0
       again f k h i =
           elim (decLe k m) [
-            | yes d ↦ marks-kept m k (reworked w (s .edit) .marks) (w .marks) (work-writes f .front ∙ f .marks .front) d
+            | yes d ↦ marks-kept m k (reworked w (s .edit) .marks) (w .marks) (work-writes f .before ∙ f .marks .before) d
                 ∙ b k h (unfold q in omega (arith, f .first-held))
                 ∙ ap markOf (sym (same-state (w .code) m k (s .edit .sheet) (w .sheet) (groups-stay f) d))
             | no d ↦ made (built-true w b) f .written k (omega arith) i
@@ -222,7 +223,7 @@ module _ (w : World) (s : Save) (p : Proper w s) where
       freed f =
           record {
             bytes = f .bytes-freed;
-            words = λ k h i. mark-behind k (k - 1) _ (s .edit .marks) (omega arith) (work-writes f .back (k - 1) (omega arith)) ∙ f .words-freed k h i;
+            words = λ k h i. mark-behind k (k - 1) _ (s .edit .marks) (omega arith) (work-writes f .behind (k - 1) (omega arith)) ∙ f .words-freed k h i;
           }
 
   -- from true marks, a save whose other arguments are valid is accepted exactly when the claim is Luffa of the sheet found, else stale

@@ -11,7 +11,7 @@ use Rattle.definition.specs.declared.Block.{Block}
 use Rattle.definition.specs.declared.Width.{Width}
 use Rattle.definition.specs.Round.{chain}
 use Rattle.definition.specs.Padding.{blocks}
-use Rattle.definition.specs.Luffa.{widthAt}
+use Rattle.definition.specs.Width.{widthAt}
 use Rattle.sheet_definition.specs.Sheet.{World, recordBytes, groupBytes, markWords, q, r}
 use Rattle.sheet_definition.specs.Marks.{held, markAt, stateFrom, markOf, marksAfter, worked}
 use Rattle.sheet_definition.specs.Save.{doneWith, reworked}

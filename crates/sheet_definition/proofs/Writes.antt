@@ -15,7 +15,8 @@ use Rattle.definition.specs.Block.{wordsOf, wordsOfAll}
 use Rattle.definition.specs.State.{five}
 use Rattle.definition.specs.Round.{chain}
 use Rattle.definition.specs.Padding.{blocks}
-use Rattle.definition.specs.Luffa.{widthAt, bytesAt, digestAfter}
+use Rattle.definition.specs.Width.{widthAt}
+use Rattle.definition.specs.Luffa.{bytesAt, digestAfter}
 use Rattle.definition.specs.Buffer.{overwriteAt, same}
 use Rattle.sheet_definition.specs.Sheet.{groupBytes, markWords, q}
 use Rattle.sheet_definition.specs.Marks.{held, markAt, stateFrom, markOf, marksAfter, worked}
@@ -62,8 +63,8 @@ length-marksAfter w (suc k) h x = omega (arith, length-marksAfter w k (chain w h
 -- the work from mark m writes the marks after it and no others
 pub record Rewritten (n m : ℕ) (marks' marks : List ℕ) : Type 0 where
   pub size : length marks' ≡ length marks
-  pub front : take (markWords * (m + 1)) marks' ≡ take (markWords * (m + 1)) marks
-  pub back : (e : ℕ) → q n ≤ e → drop (markWords * (e + 1)) marks' ≡ drop (markWords * (e + 1)) marks
+  pub before : take (markWords * (m + 1)) marks' ≡ take (markWords * (m + 1)) marks
+  pub behind : (e : ℕ) → q n ≤ e → drop (markWords * (e + 1)) marks' ≡ drop (markWords * (e + 1)) marks
 
 pub rewritten : (code n m : ℕ) (sheet marks : List ℕ) → m ≤ q n → markWords * (q n + 1) ≤ length marks
     → Rewritten n m (worked code n sheet marks m .marks) marks
@@ -75,8 +76,8 @@ rewritten code n m sheet marks h l =
     let k : length p ≡ markWords * (q n - m) = length-marksAfter (widthAt code) (q n - m) s (drop (groupBytes * m) (held n sheet)) in
     record {
       size = length-overwriteAt i p marks (omega arith);
-      front = take-overwriteAt i i p marks (omega arith) (omega arith);
-      back = λ e f. drop-overwriteAt i (markWords * (e + 1)) p marks (omega arith) (omega arith);
+      before = take-overwriteAt i i p marks (omega arith) (omega arith);
+      behind = λ e f. drop-overwriteAt i (markWords * (e + 1)) p marks (omega arith) (omega arith);
     }
 
 -- a digest has the length that its code names, whatever the marks

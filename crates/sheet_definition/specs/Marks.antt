@@ -7,10 +7,11 @@ use Rattle.definition.specs.declared.Block.{Block}
 use Rattle.definition.specs.declared.Width.{Width}
 use Rattle.definition.specs.Round.{chain}
 use Rattle.definition.specs.Padding.{closing, padded, blocks}
-use Rattle.definition.specs.Start.{blockCount, start}
+use Rattle.definition.specs.Width.{blockCount, widthAt}
+use Rattle.definition.specs.Start.{start}
 use Rattle.definition.specs.Final.{finalRounds}
 use Rattle.definition.specs.State.{five, stateOf}
-use Rattle.definition.specs.Luffa.{widthAt, wordsAt, digestAfter}
+use Rattle.definition.specs.Luffa.{wordsAt, digestAfter}
 use Rattle.definition.specs.Buffer.{overwriteAt}
 use Rattle.definition.specs.Block.{wordsOfAll}
 use Rattle.sheet_definition.specs.Sheet.{World, recordBytes, groupBytes, markWords, q}

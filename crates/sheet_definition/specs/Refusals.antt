@@ -19,13 +19,7 @@ pub record Lengths : Type 0 where
 
 abbrev pub lengthsOf : World → (out : List ℕ) → Lengths
 lengthsOf w out =
-    record {
-      code = w .code;
-      n = w .n;
-      sheetLength = length (w .sheet);
-      marksLength = length (w .marks);
-      outLength = length out;
-    }
+    record { code = w .code; n = w .n; sheetLength = length (w .sheet); marksLength = length (w .marks); outLength = length out }
 
 -- 5: "n over 1,024 or buffer under 40n bytes"
 unfoldable pub sheetRefusal : (n sheetLength : ℕ) → Refusal

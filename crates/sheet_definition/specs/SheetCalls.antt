@@ -4,7 +4,7 @@ use mathlib.Core.List.{List}
 use lib.Dec.{eqb}
 use lib.ListN.{length, replicate}
 use Rattle.definition.specs.Start.{start}
-use Rattle.definition.specs.Luffa.{widthAt}
+use Rattle.definition.specs.Width.{widthAt}
 use Rattle.definition.specs.Buffer.{overwriteAt, overwrite}
 use Rattle.definition.specs.Refusal.{Refusal, STALE, pick, firstOf, whenDone}
 use Rattle.sheet_definition.specs.Sheet.{World, recordBytes, markWords, q, r}
@@ -12,10 +12,14 @@ use Rattle.sheet_definition.specs.Refusals.{Lengths, lengthsOf, buildRef
 use Rattle.sheet_definition.specs.Marks.{markOf, worked}
 use Rattle.sheet_definition.specs.Save.{SheetOutcome, refusedWith, doneWith, Edit, Save, saveOutcome}
 
+-- a world as its parts are lent
+abbrev pub lent : (code : ℕ) → (sheet : List ℕ) → (n : ℕ) → (marks : List ℕ) → World
+lent code sheet n marks = record { code = code; n = n; sheet = sheet; marks = marks }
+
 -- "mark 0 is the starting variables", and a build works on from it
 unfoldable pub buildOutcome : (code : ℕ) → (sheet : List ℕ) → (n : ℕ) → (marks out : List ℕ) → SheetOutcome
 buildOutcome code sheet n marks out =
-    let w : World = record { code = code; n = n; sheet = sheet; marks = marks } in
+    let w : World = lent code sheet n marks in
     let number : ℕ = firstOf (buildRefusals (lengthsOf w out)) in
     whenDone number
     (doneWith n sheet (worked code n sheet (overwrite (markOf (start (widthAt code))) marks) 0) 0 out)
@@ -75,15 +79,11 @@ call w c = saveOutcome w (saveOf w c)
 abbrev pub changing : (place : ℕ) → (record' claim out : List ℕ) → Call
 changing place x claim out = record { kind = Change place x; claim = claim; out = out }
 
-abbrev pub changeOutcome : (code : ℕ) → (sheet : List ℕ) → (n : ℕ) → (marks : List ℕ) → (place : ℕ) → (record' claim out : List ℕ)
-    → SheetOutcome
-changeOutcome code sheet n marks place x claim out =
-    call (record { code = code; n = n; sheet = sheet; marks = marks }) (changing place x claim out)
+abbrev pub changeOutcome : (code : ℕ) → (sheet : List ℕ) → (n : ℕ) → (marks : List ℕ) → (place : ℕ) → (record' claim out : List ℕ) → SheetOutcome
+changeOutcome code sheet n marks place x claim out = call (lent code sheet n marks) (changing place x claim out)
 
 abbrev pub appendOutcome : (code : ℕ) → (sheet : List ℕ) → (n : ℕ) → (marks record' claim out : List ℕ) → SheetOutcome
-appendOutcome code sheet n marks x claim out =
-    call (record { code = code; n = n; sheet = sheet; marks = marks }) (record { kind = Append x; claim = claim; out = out })
+appendOutcome code sheet n marks x claim out = call (lent code sheet n marks) (record { kind = Append x; claim = claim; out = out })
 
 abbrev pub dropOutcome : (code : ℕ) → (sheet : List ℕ) → (n : ℕ) → (marks claim out : List ℕ) → SheetOutcome
-dropOutcome code sheet n marks claim out =
-    call (record { code = code; n = n; sheet = sheet; marks = marks }) (record { kind = Drop; claim = claim; out = out })
+dropOutcome code sheet n marks claim out = call (lent code sheet n marks) (record { kind = Drop; claim = claim; out = out })

@@ -12,7 +12,7 @@ use Rattle.definition.specs.declared.State.{State}
 use Rattle.definition.specs.declared.Width.{Width}
 use Rattle.definition.specs.declared.Width.the-variants.{W3, W4, W5}
 use Rattle.definition.specs.Block.{wordsOf, wordsOfAll}
-use Rattle.definition.specs.Start.{blockCount}
+use Rattle.definition.specs.Width.{blockCount}
 use Rattle.definition.specs.State.{five, stateOf}
 use Rattle.definition.specs.Buffer.{overwriteAt}
 use Rattle.sheet_definition.specs.Sheet.{markWords, q, r}

@@ -13,17 +13,17 @@ use Rattle.sheet_definition.specs.Marks.{worked}
 use Rattle.sheet_definition.proofs.Writes.{length-digest}
 use Rattle.sheet_definition.proofs.Fair.{read-written}
 
-abbrev pub front : (x d : List ℕ) → Bool
-front x d = same x (take (length x) d)
+abbrev pub inFront : (x d : List ℕ) → Bool
+inFront x d = same x (take (length x) d)
 
 -- nothing left is in front
-pub none-left : (x d : List ℕ) → length x ≡ 0 → front x d ≡ true
+pub none-left : (x d : List ℕ) → length x ≡ 0 → inFront x d ≡ true
 none-left [] d e = refl
 none-left (a ∷ x) d e = absurd (omega arith)
 
 -- else the first bytes and then what is left decide
 pub first-bytes : (x d : List ℕ) → 0 < length x → length x ≤ length d
-    → front x d ≡ eqb (getD x 0 0) (getD d 0 0) && front (drop 1 x) (drop 1 d)
+    → inFront x d ≡ eqb (getD x 0 0) (getD d 0 0) && inFront (drop 1 x) (drop 1 d)
 first-bytes [] d h l = absurd (omega arith)
 first-bytes (a ∷ x) [] h l = absurd (omega arith)
 first-bytes (a ∷ x) (b ∷ d) h l = refl

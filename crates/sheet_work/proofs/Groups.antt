@@ -15,13 +15,13 @@ use Rattle.definition.specs.Word.{bytesOfAll}
 use Rattle.definition.specs.Block.{zeroBlock, wordsOfAll}
 use Rattle.definition.specs.Round.{chain}
 use Rattle.definition.specs.Padding.{closing, padded, blocks}
-use Rattle.definition.specs.Start.{blockCount}
+use Rattle.definition.specs.Width.{blockCount, widthAt}
 use Rattle.definition.specs.State.{five, blocksIn, stateOf}
 use Rattle.definition.specs.Final.{final, finalRounds}
 use Rattle.definition.specs.Counted.{countedChain}
-use Rattle.definition.specs.Luffa.{widthAt, wordsAt, bytesAt, digestAfter}
+use Rattle.definition.specs.Luffa.{wordsAt, bytesAt, digestAfter}
 use Rattle.definition.specs.Buffer.{overwriteAt, overwrite}
-use Rattle.sheet_definition.specs.Sheet.{q}
+use Rattle.sheet_definition.specs.Sheet.{most, recordBytes, groupBytes, markWords, q}
 use Rattle.sheet_definition.specs.Marks.{held, markAt, stateFrom, markOf, marksAfter, roundsAfter, worked}
 use Rattle.definition.proofs.Buffer.{overwriteAt-more, overwriteAt-none}
 use Rattle.definition.proofs.Chain.{blocks-of-state, counted-append, counted-state, counted-blocks, counted-rounds}
@@ -36,64 +36,64 @@ from-place : (i j : ℕ) (l : List ℕ) → i ≤ j → take (j - i) (drop i l) 
 from-place i j l h = sym (drop-take i (j - i) l) ∙ ap (λ (k : ℕ). drop i (take k l)) {x = i + (j - i)} {y = j} (omega arith)
 
 -- and a group of them
-group-there : (k n : ℕ) (sheet : List ℕ) → k < q n → 40 * n ≤ length sheet
-    → take (160 * k + 160 - 160 * k) (drop (160 * k) sheet) ≡ take 160 (drop (160 * k) (held n sheet))
+group-there : (k n : ℕ) (sheet : List ℕ) → k < q n → recordBytes * n ≤ length sheet
+    → take (groupBytes * k + groupBytes - groupBytes * k) (drop (groupBytes * k) sheet) ≡ take groupBytes (drop (groupBytes * k) (held n sheet))
 unfolding held q
 group-there k n sheet h l =
-    ap (λ (a : ℕ). take a (drop (160 * k) sheet)) {x = 160 * k + 160 - 160 * k} {y = 160} (omega arith)
-    ∙ sym (take-take 160 (40 * n - 160 * k) (drop (160 * k) sheet) (omega arith))
-    ∙ ap (take 160) (from-place (160 * k) (40 * n) sheet (omega arith))
+    ap (λ (a : ℕ). take a (drop (groupBytes * k) sheet)) {x = groupBytes * k + groupBytes - groupBytes * k} {y = groupBytes} (omega arith)
+    ∙ sym (take-take groupBytes (recordBytes * n - groupBytes * k) (drop (groupBytes * k) sheet) (omega arith))
+    ∙ ap (take groupBytes) (from-place (groupBytes * k) (recordBytes * n) sheet (omega arith))
 
 -- what is still to come from mark k on: the marks as they will be, and the state with its count after the padded rest
 unfoldable pub ahead : Width → (n : ℕ) → (sheet : List ℕ) → (k : ℕ) → Counted → (marks : List ℕ) → List ℕ × Counted
 ahead w n sheet k c marks =
-    let x : List ℕ = drop (160 * k) (held n sheet) in
-    (overwriteAt (40 * (k + 1)) (marksAfter w (q n - k) (blocksIn w (c .state)) x) marks, countedChain w c (blocks (padded closing x)))
+    let x : List ℕ = drop (groupBytes * k) (held n sheet) in
+    (overwriteAt (markWords * (k + 1)) (marksAfter w (q n - k) (blocksIn w (c .state)) x) marks, countedChain w c (blocks (padded closing x)))
 
 -- a group's rounds, and those after it
-rounds-step : (w : Width) (c : Counted) (x : List ℕ) → 160 ≤ length x
-    → countedChain w (countedChain w c (blocks (take 160 x))) (blocks (padded closing (drop 160 x))) ≡ countedChain w c (blocks (padded closing x))
+rounds-step : (w : Width) (c : Counted) (x : List ℕ) → groupBytes ≤ length x
+    → countedChain w (countedChain w c (blocks (take groupBytes x))) (blocks (padded closing (drop groupBytes x))) ≡ countedChain w c (blocks (padded closing x))
 rounds-step w c x l =
-    let e : length (take 160 x) ≡ 5 * 32 = length-take-le 160 x l in
-    sym (counted-append w c (blocks (take 160 x)) (blocks (padded closing (drop 160 x))))
+    let e : length (take groupBytes x) ≡ 5 * 32 = length-take-le groupBytes x l in
+    sym (counted-append w c (blocks (take groupBytes x)) (blocks (padded closing (drop groupBytes x))))
     ∙ ap (countedChain w c)
-    (sym (blocks-append 5 (take 160 x) (padded closing (drop 160 x)) e)
-    ∙ ap blocks (sym (padded-append 5 closing (take 160 x) (drop 160 x) e) ∙ ap (padded closing) (take-append-drop 160 x)))
+    (sym (blocks-append 5 (take groupBytes x) (padded closing (drop groupBytes x)) e)
+    ∙ ap blocks (sym (padded-append 5 closing (take groupBytes x) (drop groupBytes x) e) ∙ ap (padded closing) (take-append-drop groupBytes x)))
 
 -- one group further on, with its mark written, the same is still to come
-pub group-on : (w : Width) (n k : ℕ) (c d : Counted) (sheet marks marks' : List ℕ) → k < q n → 40 * n ≤ length sheet
-    → 40 * (q n + 1) ≤ length marks
-    → d ≡ countedChain w c (blocks (take (160 * k + 160 - 160 * k) (drop (160 * k) sheet)))
-    → marks' ≡ overwriteAt (40 * (k + 1)) (wordsOfAll (five (d .state))) marks
+pub group-on : (w : Width) (n k : ℕ) (c d : Counted) (sheet marks marks' : List ℕ) → k < q n → recordBytes * n ≤ length sheet
+    → markWords * (q n + 1) ≤ length marks
+    → d ≡ countedChain w c (blocks (take (groupBytes * k + groupBytes - groupBytes * k) (drop (groupBytes * k) sheet)))
+    → marks' ≡ overwriteAt (markWords * (k + 1)) (wordsOfAll (five (d .state))) marks
     → ahead w n sheet (k + 1) d marks' ≡ ahead w n sheet k c marks
 unfolding ahead markOf marksAfter
 group-on w n k c d sheet marks marks' h l r e f =
-    let x : List ℕ = drop (160 * k) (held n sheet) in
-    let s : 160 ≤ length x = unfold held q in omega (arith, length-drop (160 * k) (take (40 * n) sheet), length-take-le (40 * n) sheet l) in
-    let ms : List Block = blocks (take 160 x) in
+    let x : List ℕ = drop (groupBytes * k) (held n sheet) in
+    let s : groupBytes ≤ length x = unfold held q in omega (arith, length-drop (groupBytes * k) (take (recordBytes * n) sheet), length-take-le (recordBytes * n) sheet l) in
+    let ms : List Block = blocks (take groupBytes x) in
     let h' : List Block = chain w (blocksIn w (c .state)) ms in
     let g : d ≡ countedChain w c ms = e ∙ ap (λ (t : List ℕ). countedChain w c (blocks t)) (group-there k n sheet h l) in
-    let y : drop (160 * (k + 1)) (held n sheet) ≡ drop 160 x =
-    ap (λ (i : ℕ). drop i (held n sheet)) {x = 160 * (k + 1)} {y = 160 * k + 160} (omega arith) ∙ sym (drop-drop 160 (160 * k) (held n sheet)) in
+    let y : drop (groupBytes * (k + 1)) (held n sheet) ≡ drop groupBytes x =
+    ap (λ (i : ℕ). drop i (held n sheet)) {x = groupBytes * (k + 1)} {y = groupBytes * k + groupBytes} (omega arith) ∙ sym (drop-drop groupBytes (groupBytes * k) (held n sheet)) in
     let b : blocksIn w (d .state) ≡ h' = ap (λ (t : Counted). blocksIn w (t .state)) g ∙ counted-blocks w c ms in
-    let m : marks' ≡ overwriteAt (40 * (k + 1)) (markOf h') marks =
-    f ∙ ap (λ (s : State). overwriteAt (40 * (k + 1)) (wordsOfAll (five s)) marks) (ap (λ (t : Counted). t .state) g ∙ counted-state w c ms) in
+    let m : marks' ≡ overwriteAt (markWords * (k + 1)) (markOf h') marks =
+    f ∙ ap (λ (s : State). overwriteAt (markWords * (k + 1)) (wordsOfAll (five s)) marks) (ap (λ (t : Counted). t .state) g ∙ counted-state w c ms) in
     let j : q n - k ≡ suc (q n - (k + 1)) = omega arith in
     ap₂ (λ (a : List ℕ) (t : Counted). (a, t))
     (rw (y, b, m, j)
-    (overwriteAt-more (40 * (k + 1)) (40 * (k + 1 + 1)) (markOf h') (marksAfter w (q n - (k + 1)) h' (drop 160 x)) marks (omega arith) (omega (arith, length-mark h'))))
+    (overwriteAt-more (markWords * (k + 1)) (markWords * (k + 1 + 1)) (markOf h') (marksAfter w (q n - (k + 1)) h' (drop groupBytes x)) marks (omega arith) (omega (arith, length-mark h'))))
     (rw (y, g) (rounds-step w c x s))
 
 -- from the last mark on no mark is written
-nothing-written : (w : Width) (n : ℕ) (h : List Block) (x marks : List ℕ) → 40 * (q n + 1) ≤ length marks
-    → overwriteAt (40 * (q n + 1)) (marksAfter w (q n - q n) h x) marks ≡ marks
+nothing-written : (w : Width) (n : ℕ) (h : List Block) (x marks : List ℕ) → markWords * (q n + 1) ≤ length marks
+    → overwriteAt (markWords * (q n + 1)) (marksAfter w (q n - q n) h x) marks ≡ marks
 unfolding marksAfter
 nothing-written w n h x marks r =
     let j : q n - q n ≡ 0 = omega arith in
-    rw j (overwriteAt-none (40 * (q n + 1)) marks r)
+    rw j (overwriteAt-none (markWords * (q n + 1)) marks r)
 
 -- so the check leaves the marks
-pub check-leaves : (code n : ℕ) (sheet marks : List ℕ) → 40 * (q n + 1) ≤ length marks → worked code n sheet marks (q n) .marks ≡ marks
+pub check-leaves : (code n : ℕ) (sheet marks : List ℕ) → markWords * (q n + 1) ≤ length marks → worked code n sheet marks (q n) .marks ≡ marks
 unfolding worked
 check-leaves code n sheet marks r = nothing-written _ n _ _ marks r
 
@@ -114,16 +114,16 @@ no-wrap code before bytes a k z b d e f g = omega (arith, words-le code)
 module _ (code n m before : ℕ) (sheet marks out : List ℕ) (s : State) (k : ℕ) (c d : Counted) (marks' : List ℕ)
     (e : s ≡ stateOf (stateFrom (widthAt code) (markAt marks m))) (g : k ≡ q n)
     (f : ahead (widthAt code) n sheet k c marks' ≡ ahead (widthAt code) n sheet m (record { state = s; rounds = before }) marks)
-    (a : d ≡ countedChain (widthAt code) c (blocks (padded closing (take (40 * n - 160 * (n / 4)) (drop (160 * (n / 4)) sheet)))))
-    (room : 40 * n ≤ length sheet) (out-room : bytesAt code ≤ length out) where
+    (a : d ≡ countedChain (widthAt code) c (blocks (padded closing (take (recordBytes * n - groupBytes * (n / 4)) (drop (groupBytes * (n / 4)) sheet)))))
+    (room : recordBytes * n ≤ length sheet) (out-room : bytesAt code ≤ length out) where
   abbrev pub w : Width
   w = widthAt code
 
-  abbrev begun : Counted
-  begun = record { state = s; rounds = before }
+  abbrev fromMark : Counted
+  fromMark = record { state = s; rounds = before }
 
   abbrev rest : List ℕ
-  rest = drop (160 * m) (held n sheet)
+  rest = drop (groupBytes * m) (held n sheet)
 
   abbrev ms : List Block
   ms = blocks (padded closing rest)
@@ -132,18 +132,18 @@ module _ (code n m before : ℕ) (sheet marks out : List ℕ) (s : State) (k : �
   found : blocksIn w s ≡ stateFrom w (markAt marks m)
   found = ap (blocksIn w) e ∙ blocks-of-state w (stateFrom w (markAt marks m)) (length-state w (markAt marks m))
 
-  ended : d ≡ countedChain w begun ms
+  ended : d ≡ countedChain w fromMark ms
   unfolding ahead held q
   ended =
       a
-      ∙ ap (λ (x : List ℕ). countedChain w c (blocks (padded closing x))) (from-place (160 * (n / 4)) (40 * n) sheet (omega arith))
-      ∙ ap (λ (i : ℕ). countedChain w c (blocks (padded closing (drop (160 * i) (take (40 * n) sheet))))) (sym g)
+      ∙ ap (λ (x : List ℕ). countedChain w c (blocks (padded closing x))) (from-place (groupBytes * (n / 4)) (recordBytes * n) sheet (omega arith))
+      ∙ ap (λ (i : ℕ). countedChain w c (blocks (padded closing (drop (groupBytes * i) (take (recordBytes * n) sheet))))) (sym g)
       ∙ ap (λ (t : List ℕ × Counted). t .1) f
 
-  marks-worked : 40 * (q n + 1) ≤ length marks' → marks' ≡ worked code n sheet marks m .marks
+  marks-worked : markWords * (q n + 1) ≤ length marks' → marks' ≡ worked code n sheet marks m .marks
   unfolding worked ahead
   marks-worked r =
-      sym (nothing-written w n (blocksIn w (c .state)) (drop (160 * q n) (held n sheet)) marks' r)
+      sym (nothing-written w n (blocksIn w (c .state)) (drop (groupBytes * q n) (held n sheet)) marks' r)
       ∙ ap (λ (t : List ℕ × Counted). t .0) (ap (λ (i : ℕ). ahead w n sheet i c marks') (sym g) ∙ f)
       ∙ rw found
 
@@ -152,24 +152,24 @@ module _ (code n m before : ℕ) (sheet marks out : List ℕ) (s : State) (k : �
 
   digest-worked : bytesOfAll (final w words (blocksIn w (d .state))) ≡ worked code n sheet marks m .digest
   unfolding worked digestAfter
-  digest-worked = rw ended (ap bytesOfAll (squeezed-out code begun ms out out-room ∙ rw found))
+  digest-worked = rw ended (ap bytesOfAll (squeezed-out code fromMark ms out out-room ∙ rw found))
 
   -- the count is the number of rounds that the definition applies
-  rounds-worked : n ≤ 1024 → before < 2 ^ 32
+  rounds-worked : n ≤ most → before < 2 ^ 32
       → countedChain w d (replicate (finalRounds words) zeroBlock) .rounds ≡ before + worked code n sheet marks m .rounds
   unfolding worked roundsAfter
   rounds-worked h b =
       let zs : List Block = replicate (finalRounds words) zeroBlock in
       let t : d .rounds ≡ (before + length ms) % 2 ^ 64 =
-      ap (λ (t : Counted). t .rounds) ended ∙ counted-rounds w begun ms (omega arith) in
+      ap (λ (t : Counted). t .rounds) ended ∙ counted-rounds w fromMark ms (omega arith) in
       counted-rounds w d zs (omega arith)
       ∙ no-wrap code before (length rest) (d .rounds) (length ms) (length zs) b t
       (length-replicate (finalRounds words) zeroBlock ∙ ap finalRounds (all-words code out out-room))
       (padded-blocks closing rest)
-      (unfold held in omega (arith, length-drop (160 * m) (take (40 * n) sheet), length-take-le (40 * n) sheet room))
+      (unfold held in omega (arith, length-drop (groupBytes * m) (take (recordBytes * n) sheet), length-take-le (recordBytes * n) sheet room))
 
   -- so the final stage leaves what the definition says
-  pub all-worked : (x : Counted) (out' : List ℕ) → n ≤ 1024 → before < 2 ^ 32 → 40 * (q n + 1) ≤ length marks'
+  pub all-worked : (x : Counted) (out' : List ℕ) → n ≤ most → before < 2 ^ 32 → markWords * (q n + 1) ≤ length marks'
       → (x ≡ countedChain w d (replicate (finalRounds words) zeroBlock)) × (out' ≡ overwrite (bytesOfAll (final w words (blocksIn w (d .state)))) out)
       → (x .rounds ≡ before + worked code n sheet marks m .rounds)
       × ((marks' ≡ worked code n sheet marks m .marks) × (out' ≡ overwrite (worked code n sheet marks m .digest) out))

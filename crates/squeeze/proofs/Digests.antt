@@ -11,7 +11,8 @@ use Rattle.definition.specs.Round.{chain}
 use Rattle.definition.specs.State.{blocksIn}
 use Rattle.definition.specs.Final.{final}
 use Rattle.definition.specs.Counted.{countedChain}
-use Rattle.definition.specs.Luffa.{widthAt, wordsAt, bytesAt}
+use Rattle.definition.specs.Width.{widthAt}
+use Rattle.definition.specs.Luffa.{wordsAt, bytesAt}
 use Rattle.definition.proofs.Chain.{counted-blocks}
 
 -- all words of a digest are put out

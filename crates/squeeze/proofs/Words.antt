@@ -16,7 +16,7 @@ use Rattle.definition.specs.declared.Width.{Width}
 use Rattle.definition.specs.Word.{bytesOf, bytesOfAll}
 use Rattle.definition.specs.Block.{zeroBlock, xorAll, wordsOf}
 use Rattle.definition.specs.Round.{chain}
-use Rattle.definition.specs.Start.{blockCount}
+use Rattle.definition.specs.Width.{blockCount}
 use Rattle.definition.specs.State.{five, blocksIn, stateOf}
 use Rattle.definition.specs.Final.{outputs, finalRounds, final}
 use Rattle.definition.specs.Counted.{countedRound, countedChain}

@@ -1,7 +1,7 @@
 -- `blocks::count` meets its contract, at each w.
 -- Assumes nothing.
 use borrow.Author.Needs.{needs}
-use Rattle.definition.specs.Start.{blockCount}
+use Rattle.definition.specs.Width.{blockCount}
 use Rattle.blocks.proofs.count.Statement.{statement}
 use Rattle.blocks.proofs.count.Tie as tie
 

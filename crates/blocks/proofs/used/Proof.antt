@@ -1,7 +1,7 @@
 -- `blocks::used` meets its contract, at each w.
 -- Assumes nothing.
 use borrow.Author.Needs.{needs}
-use Rattle.definition.specs.Start.{blockCount}
+use Rattle.definition.specs.Width.{blockCount}
 use Rattle.definition.specs.State.{five, blocksIn, stateOf}
 use Rattle.blocks.proofs.used.Statement.{statement}
 use Rattle.blocks.proofs.used.Tie as tie

@@ -1,7 +1,7 @@
 -- `codes::width` meets its contract: Table 2 at each code.
 -- Assumes nothing.
 use mathlib.Core.Path.{sym}
-use Rattle.definition.specs.Luffa.{widthAt}
+use Rattle.definition.specs.Width.{widthAt}
 use Rattle.definition.proofs.Codes.{width-other}
 use Rattle.codes.proofs.width.Statement.{statement}
 use Rattle.codes.proofs.width.Tie as tie

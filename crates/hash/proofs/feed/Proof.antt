@@ -1,67 +1,42 @@
--- `hash::feed` meets its contract: a record whose frame is right is fed as what it holds.
+-- `hash::feed` meets its contract: a record is fed as what one reading of it gives, and written where that is done.
 -- Assumes nothing.
-use mathlib.Core.Path.{_≡_, sym, ap, _∙_}
-use mathlib.Core.Bool.{true}
-use mathlib.Core.List.{List}
-use Prim.Native.Nat.{ℕ}
+use mathlib.Core.Path.{_≡_, ap, _∙_}
 use denote.Ref.{now}
 use borrow.Author.Needs.{needs}
-use borrow.Author.Tests.{not-true, not-false}
-use Rattle.hash_definition.specs.Record.{decode}
-use Rattle.hash_definition.specs.Lent.{lentFeedOutcome}
-use Rattle.hash_record.specs.Reading.{framed}
-use Rattle.hash_record.proofs.Places.{written-whole}
-use Rattle.hash.proofs.Framed.{frame, unframed-feed, framed-length, held, feed-refused, feed-done}
+use Rattle.definition.specs.Refusal.{whenDone}
+use Rattle.definition.proofs.Refusals.{not-done}
+use Rattle.hash_definition.specs.Calls.{feedOutcome}
+use Rattle.hash_definition.specs.Said.{done}
+use Rattle.hash_record.specs.Reading.{written}
+use Rattle.hash.proofs.Read.{feed-read}
 use Rattle.hash.proofs.feed.Statement.{statement}
 use Rattle.hash.proofs.feed.Tie as tie
 
-abbrev start : tie.After-read → tie.Start
-start c = c .before .before .before .before
+answer : (c : tie.After-fed-answer)
+    → (let a = c .before .before .before .before .before .args in
+    let o = c .fed-answer .result in
+    record { number = o .number; buffer = whenDone (o .number) (written (o .kept) (now (a .«record»))) (now (a .«record»)) }
+    ≡ feedOutcome (now (a .«record»)) (now (a .piece)))
+answer c = feed-read _ _ _ (rw (c .before .read .ensures) at (c .fed-answer .ensures))
 
 returns : tie.Need-returns
-returns c =
-    let f = c .before .before in
-    unframed-feed (now (start f .args .«record»)) (sym (frame _ _ (f .read .ensures)) ∙ not-true _ (c .if1 .taken)) (now (start f .args .piece))
-
--- the frame is right
-right : (c : tie.Else1) → framed (now (start (c .before .before) .args .«record»)) ≡ true
-right c = sym (frame _ _ (c .before .before .read .ensures)) ∙ not-false _ (c .if1 .left)
-
--- and the answer is that over what the record holds
-abbrev entered : tie.After-fed-answer → tie.Else1
-entered c = c .before .before
-
-abbrev from : tie.After-fed-answer → tie.Start
-from c = start (entered c .before .before)
-
-answer : (c : tie.After-fed-answer) → c .fed-answer .result ≡ lentFeedOutcome (decode (now (from c .args .«record»))) (now (from c .args .piece))
-answer c = rw (held _ (right (entered c)) _ (entered c .before .before .read .ensures)) at (c .fed-answer .ensures)
+returns c = rw (not-done _ _ _ (c .if1 .taken)) at (answer (c .before .before))
 
 returns-2 : tie.Need-returns-2
+unfolding whenDone
 returns-2 c =
-    let a = c .before .before in
-    feed-refused (now (from a .args .«record»)) (right (entered a)) (now (from a .args .piece)) _ (answer a) (c .if2 .taken)
-
-returns-3 : tie.Need-returns-3
-returns-3 c =
     let w = c .before .before in
     let d = w .before .before .before in
-    let a = d .before .before in
-    let r = now (from a .args .«record») in
-    let f = right (entered a) in
-    ap (λ (b : List ℕ). record { number = 0; buffer = b }) (w .encode .ensures ∙ written-whole _ r (framed-length r f))
-    ∙ feed-done r f (now (from a .args .piece)) _ (answer a) (d .if2 .left)
+    ap done (w .encode .ensures) ∙ (rw (d .if1 .left) at (answer (d .before .before)))
 
 pub feed-spec : {M : Type 1} → statement M
 feed-spec =
     tie.close
     (tie.spec
     (λ c κs. tt)
+    (λ c κs. tt)
     (λ c. search needs)
     returns
     (λ c κs. tt)
     (λ c. search needs)
-    returns-2
-    (λ c κs. tt)
-    (λ c. search needs)
-    returns-3)
+    returns-2)

@@ -1,59 +1,48 @@
--- `hash_pieces::fed_answer` meets its contract: at each return the tests that led there say which refusal is first.
+-- `hash_pieces::fed_answer` meets its contract: the two judgements in turn are the list, and past them the piece is fed.
 -- Assumes nothing.
-use mathlib.Core.Path.{_≡_, sym, ap, _∙_}
-use mathlib.Core.Bool.{true}
-use Prim.Native.Nat.{_+_, _<_, _≤_}
+use mathlib.Core.Path.{_≡_, ap, _∙_}
+use mathlib.Core.Bool.{false}
+use mathlib.Core.List.{List, [], _∷_}
+use Prim.Native.Nat.{ℕ}
 use native.Mathlib.Omega.{arith}
 use denote.Ref.{now}
-use borrow.Author.Tests.{lt-ltb, le-ltb, not-true, not-false}
+use borrow.Author.Tests.{ltb-false, not-false}
 use lib.ListN.{length}
-use Rattle.hash_definition.specs.declared.Kept.{Kept}
-use Rattle.definition.specs.Refusal.{pick, firstOf}
-use Rattle.hash_definition.specs.Record.{limit, wellKept}
+use Rattle.definition.specs.Refusal.{Refusal, RECORD, LONG, pick, firstOf, conditionOf}
+use Rattle.definition.proofs.Refusals.{in-turn, fails}
 use Rattle.hash_definition.specs.Calls.{longRefusal}
 use Rattle.hash_definition.specs.Lent.{keptRefusal, lentFeedRefusals, lentFeedOutcome}
-use Rattle.hash_definition.proofs.Feeding.{well-kept}
-use Rattle.hash_definition.proofs.Working.{lent-refused, lent-accepted}
+use Rattle.hash_definition.specs.Said.{taken}
+use Rattle.hash_definition.proofs.Refused.{lent-refused, lent-accepted}
 use Rattle.hash_pieces.proofs.fed_answer.Statement.{statement}
 use Rattle.hash_pieces.proofs.fed_answer.Tie as tie
 
+abbrev start : tie.After-first → tie.Start
+start c = c .before .before .before .before
+
+abbrev refusals : tie.After-first → List Refusal
+refusals c = lentFeedRefusals (start c .args .k) (length (now (start c .args .piece)))
+
+judged : (c : tie.After-first) → c .first .result ≡ firstOf (refusals c)
+unfolding lentFeedRefusals keptRefusal
+judged c = (rw (c .before .before .form .ensures, c .before .long .ensures) at (c .first .ensures)) ∙ in-turn (_ ∷ []) (_ ∷ []) (omega arith)
+
 returns : tie.Need-returns
-unfolding lentFeedOutcome lentFeedRefusals firstOf pick keptRefusal
-returns c =
-    let f = sym (c .before .well-kept .ensures) ∙ not-true _ (c .if1 .taken) in
-    lent-refused _ _ _ 2 (rw f)
+unfolding lentFeedOutcome
+returns c = lent-refused _ (judged (c .before)) _ _ (c .if1 .taken)
 
--- the working state passed the first test
-passed : (c : tie.Else1) → wellKept (c .before .before .before .args .k) ≡ true
-passed c = sym (c .before .well-kept .ensures) ∙ not-false _ (c .if1 .left)
-
-within : (c : tie.Else1) → c .before .before .before .args .k .count ≤ limit
-within c = well-kept _ (passed c) .count-le
-
-sub-if2 : tie.Need-sub-if2
-sub-if2 c = omega (arith, within (c .before))
-
-returns-2 : tie.Need-returns-2
-unfolding lentFeedOutcome lentFeedRefusals firstOf pick keptRefusal longRefusal
-returns-2 c =
-    let e = c .before .before in
-    let a = e .before .before .before .args in
-    let l : limit < a .k .count + length (now (a .piece)) = omega (arith, within e, c .if2 .taken) in
-    lent-refused _ _ _ 3 (rw (passed e, lt-ltb _ _ l))
-
--- what the piece may add
-fits : (c : tie.Else2)
-    → c .before .before .before .before .before .args .k .count + length (now (c .before .before .before .before .before .args .piece)) ≤ limit
-fits c = omega (arith, within (c .before .before), c .if2 .left)
+-- past the judgements no condition holds
+passed : (c : tie.Else1) (n : ℕ) → conditionOf n (refusals (c .before)) ≡ false
+unfolding lentFeedRefusals keptRefusal longRefusal
+passed c = fails (refusals (c .before)) (omega arith) ((rw (judged (c .before)) at (c .if1 .left)))
 
 fed-requires : tie.Need-fed-requires
-fed-requires c κs = (passed (c .before .before), fits c)
+unfolding lentFeedRefusals keptRefusal longRefusal conditionOf pick
+fed-requires c κs = (not-false _ (passed c RECORD), ltb-false _ _ (passed c LONG))
 
-returns-3 : tie.Need-returns-3
-unfolding lentFeedOutcome lentFeedRefusals firstOf pick keptRefusal longRefusal
-returns-3 c =
-    ap (λ (s : Kept). record { number = 0; kept = s }) (c .fed .ensures)
-    ∙ lent-accepted _ _ _ (rw (passed (c .before .before .before), le-ltb _ _ (fits (c .before))))
+returns-2 : tie.Need-returns-2
+unfolding lentFeedOutcome
+returns-2 c = ap taken (c .fed .ensures) ∙ lent-accepted _ (judged (c .before .before)) _ _ (c .before .if1 .left)
 
 pub fed-answer-spec : {M : Type 1} → statement M
-fed-answer-spec = tie.close (tie.spec (λ c κs. tt) returns sub-if2 returns-2 fed-requires returns-3)
+fed-answer-spec = tie.close (tie.spec (λ c κs. tt) (λ c κs. tt) (λ c κs. tt) returns fed-requires returns-2)

@@ -4,8 +4,9 @@ use mathlib.Core.Path.{_≡_, sym, _∙_}
 use denote.Ref.{now}
 use borrow.Author.Tests.{eq-eqb, ne-eqb}
 use lib.ListN.{length}
+use Rattle.definition.specs.Refusal.{pick}
 use Rattle.hash_definition.specs.Record.{countWords}
-use Rattle.hash_record.specs.Reading.{writeWhen, written}
+use Rattle.hash_record.specs.Reading.{written}
 use Rattle.hash_record.proofs.Places.{all-parts}
 use borrow.Author.Needs.{needs}
 use Rattle.hash_record.proofs.encode.Statement.{statement}
@@ -16,7 +17,7 @@ pending : (s : tie.Start) → length (s .args .k .pending) ≡ 32
 pending s = search needs
 
 returns : tie.Need-returns
-unfolding written writeWhen
+unfolding written pick
 returns c = rw (ne-eqb _ _ (c .if1 .taken))
 
 -- where the length was found to be right
@@ -29,7 +30,7 @@ slice-aggregate-put-bytes c =
     sym (pending (entered (w2 .before .before .before .before .before .before) .before .before))
 
 returns-2 : tie.Need-returns-2
-unfolding countWords written writeWhen
+unfolding countWords written pick
 returns-2 c =
     let w3 = c .before .before in
     let p = w3 .before .before .before .before .before in

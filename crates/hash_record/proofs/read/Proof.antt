@@ -1,14 +1,13 @@
 -- `hash_record::read` meets its contract: the length and the reserved bytes are tested, and then the record is read.
 -- Assumes nothing.
-use mathlib.Core.Path.{_≡_, sym, ap, _∙_}
-use mathlib.Core.Bool.{true}
+use mathlib.Core.Path.{_≡_, sym, _∙_}
 use denote.Ref.{now}
 use borrow.Author.Needs.{needs}
 use borrow.Author.Tests.{eq-eqb, ne-eqb, not-true, not-false}
 use lib.ListN.{take, drop}
-use Rattle.hash_definition.specs.declared.Kept.{Kept}
+use Rattle.definition.specs.Refusal.{pick}
 use Rattle.hash_definition.specs.Record.{allZero}
-use Rattle.hash_record.specs.Reading.{framed, readWhen, reading}
+use Rattle.hash_record.specs.Reading.{framed, reading}
 use Rattle.hash_record.proofs.read.Statement.{statement}
 use Rattle.hash_record.proofs.read.Tie as tie
 
@@ -20,21 +19,20 @@ reserved : (c : tie.After-all-zero) → c .all-zero .result ≡ allZero (take 7 
 reserved c = c .all-zero .ensures
 
 returns : tie.Need-returns
-unfolding reading readWhen framed
+unfolding reading pick framed
 returns c = rw (ne-eqb _ _ (c .before .if1 .taken)) (c .nothing .ensures)
 
 returns-2 : tie.Need-returns-2
-unfolding reading readWhen framed
+unfolding reading pick framed
 returns-2 c =
     let a = c .before .before in
     rw (eq-eqb _ _ (a .before .before .if1 .left), sym (reserved a) ∙ not-true _ (c .before .if2 .taken)) (c .nothing2 .ensures)
 
 returns-3 : tie.Need-returns-3
-unfolding reading readWhen framed
+unfolding reading pick framed
 returns-3 c =
     let a = c .before .before in
-    rw (eq-eqb _ _ (a .before .before .if1 .left), sym (reserved a) ∙ not-false _ (c .before .if2 .left))
-    (ap (λ (k : Kept). record { framed = true; kept = k }) (c .decode .ensures))
+    rw (eq-eqb _ _ (a .before .before .if1 .left), sym (reserved a) ∙ not-false _ (c .before .if2 .left)) (c .decode .ensures)
 
 pub read-spec : {M : Type 1} → statement M
 read-spec =

@@ -1,7 +1,7 @@
 -- `injection::inject` meets its contract: at each w it hands the first w blocks on.
 -- Assumes nothing.
 use borrow.Author.Needs.{needs}
-use Rattle.definition.specs.Start.{blockCount}
+use Rattle.definition.specs.Width.{blockCount}
 use Rattle.definition.specs.State.{five, blocksIn}
 use Rattle.injection.proofs.inject.Statement.{statement}
 use Rattle.injection.proofs.inject.Tie as tie

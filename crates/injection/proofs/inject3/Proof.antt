@@ -3,15 +3,15 @@
 use mathlib.Core.Path.{refl}
 use mathlib.Core.List.{[], _∷_}
 use Rattle.definition.specs.declared.Width.the-variants.{W3}
-use Rattle.definition.specs.AppendixE.{power, sum, η, ξ, chained, forms, value, appendixE}
-use Rattle.definition.specs.Start.{blockCount}
+use Rattle.definition.specs.AppendixE.{power, xorTo, η, ξ, withoutMessage, forms, value, appendixE}
+use Rattle.definition.specs.Width.{blockCount}
 use Rattle.definition.specs.State.{stateOf}
 use Rattle.definition.proofs.Injection.{forms-inject}
 use Rattle.injection.proofs.inject3.Statement.{statement}
 use Rattle.injection.proofs.inject3.Tie as tie
 
 returns : tie.Need-returns
-unfolding blockCount stateOf appendixE value forms chained ξ η sum power
+unfolding blockCount stateOf appendixE value forms withoutMessage ξ η xorTo power
 returns c =
     let d13 = c in
     let d12 = d13 .before in

@@ -6,7 +6,7 @@ use Rattle.definition.specs.Luffa.{bytesAt}
 use Rattle.definition.specs.Refusal.{widthRefusal, outRefusal}
 use Rattle.sheet_definition.specs.Refusals.{sheetRefusal, marksRefusal, buildRefusals}
 use Rattle.definition.proofs.Codes.{words-le}
-use Rattle.definition.proofs.Refusals.{judged}
+use Rattle.definition.proofs.Refusals.{then-judged}
 use Rattle.sheet_judge.proofs.build.Statement.{statement}
 use Rattle.sheet_judge.proofs.build.Tie as tie
 
@@ -19,9 +19,9 @@ returns c =
     let s = m .before in
     let o = s .before in
     let n = o .before in
-    judged (_ ∷ []) _ (omega arith) (c .first3 .ensures) (n .before .width .ensures)
-    (judged (_ ∷ []) _ (omega arith) (two .first2 .ensures) (rw (n .words .ensures) at (o .out .ensures))
-    (judged (_ ∷ []) (_ ∷ []) (omega arith) (six .first .ensures) (s .records .ensures) (m .marks-room .ensures)))
+    then-judged (_ ∷ []) _ (omega arith) (c .first3 .ensures) (n .before .width .ensures)
+    (then-judged (_ ∷ []) _ (omega arith) (two .first2 .ensures) (rw (n .words .ensures) at (o .out .ensures))
+    (then-judged (_ ∷ []) (_ ∷ []) (omega arith) (six .first .ensures) (s .records .ensures) (m .marks-room .ensures)))
 
 pub build-spec : {M : Type 1} → statement M
 build-spec =

@@ -4,7 +4,7 @@ use mathlib.Core.Path.{refl}
 use mathlib.Core.List.{[], _∷_}
 use native.Mathlib.Omega.{arith}
 use Rattle.sheet_definition.specs.Refusals.{placeRefusal, buildRefusals, changeRefusals}
-use Rattle.definition.proofs.Refusals.{judged}
+use Rattle.definition.proofs.Refusals.{then-judged}
 use Rattle.sheet_definition.proofs.Refused.{built-numbered}
 use Rattle.sheet_judge.proofs.change.Statement.{statement}
 use Rattle.sheet_judge.proofs.change.Tie as tie
@@ -14,8 +14,8 @@ unfolding changeRefusals placeRefusal
 returns c =
     let b = c .before in
     let o = b .before in
-    judged (buildRefusals _) _ (built-numbered _) (c .first .ensures) (b .build .ensures)
-    (judged (_ ∷ []) _ (omega arith) (o .sized .ensures) (o .before .has-place .ensures) refl)
+    then-judged (buildRefusals _) _ (built-numbered _) (c .first .ensures) (b .build .ensures)
+    (then-judged (_ ∷ []) _ (omega arith) (o .sized .ensures) (o .before .has-place .ensures) refl)
 
 pub change-spec : {M : Type 1} → statement M
 change-spec = tie.close (tie.spec (λ c κs. tt) (λ c κs. tt) (λ c κs. tt) (λ c κs. tt) returns)

@@ -8,12 +8,12 @@ use denote.Ref.{now}
 use borrow.Author.Tests.{eq-eqb, ne-eqb}
 use lib.ListN.{length, length-drop}
 use Rattle.bytes.proofs.Parts.{part-rest}
-use Rattle.sheet_work.proofs.Claims.{front, none-left, first-bytes}
+use Rattle.sheet_work.proofs.Claims.{inFront, none-left, first-bytes}
 use Rattle.sheet_work.proofs.differs.Statement.{statement}
 use Rattle.sheet_work.proofs.differs.Tie as tie
 
 abbrev Inv-loop : tie.InvT-loop
-Inv-loop claim digest t₀ d₀ t d = (length t ≤ length d) × (front t d ≡ front t₀ d₀)
+Inv-loop claim digest t₀ d₀ t d = (length t ≤ length d) × (inFront t d ≡ inFront t₀ d₀)
 
 abbrev μ-loop : tie.MeasureT-loop
 μ-loop claim digest t₀ d₀ t d = length t
@@ -21,7 +21,7 @@ abbrev μ-loop : tie.MeasureT-loop
 returns : tie.Need-returns Inv-loop μ-loop
 returns c =
     let l = c .before .before .before .before .loop in
-    let e : front (now (l .t)) (now (l .d)) ≡ false =
+    let e : inFront (now (l .t)) (now (l .d)) ≡ false =
     first-bytes (now (l .t)) (now (l .d)) (omega arith) (omega arith) ∙ rw (ne-eqb _ _ (c .if1 .taken)) in
     ap not (sym e ∙ l .inv .1)
 

@@ -6,7 +6,7 @@ use native.Mathlib.Omega.{arith}
 use denote.Ref.{now}
 use borrow.Author.Needs.{needs}
 use lib.ListN.{length}
-use Rattle.sheet_definition.specs.Sheet.{q}
+use Rattle.sheet_definition.specs.Sheet.{most, recordBytes, markWords, q}
 use Rattle.sheet_marks.proofs.Total.{read-at, written-at}
 use Rattle.sheet_work.proofs.Groups.{ahead, group-on, all-worked}
 use Rattle.sheet_work.proofs.work_on.Statement.{statement}
@@ -14,8 +14,8 @@ use Rattle.sheet_work.proofs.work_on.Tie as tie
 
 abbrev Inv-loop : tie.InvT-loop
 Inv-loop code sheet n marks₀ m before out w c₀ last k₀ marks c k =
-    ((k ≤ last) × (last ≡ n / 4) × (n ≤ 1024) × (40 * n ≤ length sheet) × (length sheet < 2 ^ 63))
-    × ((40 * (n / 4 + 1) ≤ length marks) × (length marks ≡ length marks₀))
+    ((k ≤ last) × (last ≡ n / 4) × (n ≤ most) × (recordBytes * n ≤ length sheet) × (length sheet < 2 ^ 63))
+    × ((markWords * (n / 4 + 1) ≤ length marks) × (length marks ≡ length marks₀))
     × (ahead w n sheet k c marks ≡ ahead w n sheet m c₀ marks₀)
 
 abbrev μ-loop : tie.MeasureT-loop

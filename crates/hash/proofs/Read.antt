@@ -1,0 +1,50 @@
+-- A record is judged, fed and finished as what one reading of it gives: where its frame isn't right that is nothing, which isn't well formed.
+-- Assumes nothing.
+use mathlib.Core.Path.{_≡_, refl}
+use mathlib.Core.Bool.{Bool, true, false, not, _&&_}
+use mathlib.Core.List.{List, [], _∷_}
+use Prim.Native.Nat.{ℕ, zero, suc}
+use lib.Dec.{eqb}
+use lib.ListN.{length, take, drop}
+use Rattle.definition.specs.Luffa.{bytesAt}
+use Rattle.definition.specs.Buffer.{overwrite}
+use Rattle.definition.specs.Refusal.{RECORD, pick, firstOf, known, outRefusal, whenDone}
+use Rattle.hash_definition.specs.declared.Kept.{Kept}
+use Rattle.hash_definition.specs.declared.Lent.{Lent}
+use Rattle.hash_definition.specs.Record.{recordLength, allZero, wellFormed, wellKept, encode, decode, fed, finished}
+use Rattle.hash_definition.specs.Calls.{outcome, longRefusal, recordRefusal, feedRefusals, finishRefusals, feedOutcome, finishOutcome}
+use Rattle.hash_definition.specs.Lent.{lentOutcome, keptRefusal, lentFeedRefusals, lentFinishRefusals, lentFeedOutcome, lentFinishOutcome}
+use Rattle.hash_record.specs.Reading.{framed, nothing, reading, written}
+
+module _ (b : List ℕ) where
+  -- what a call that is done writes
+  once : (n : ℕ) (x y : Kept) → whenDone n (encode (whenDone n x y)) b ≡ whenDone n (encode x) b
+  unfolding whenDone
+  once zero x y = refl
+  once (suc n) x y = refl
+
+  -- by whether the length is right and the reserved bytes are zero
+  feed-by : (p : List ℕ) (l z : Bool)
+      → (let o : Lent = lentFeedOutcome (pick (l && z) (decode b) nothing) p in
+      record { number = o .number; buffer = whenDone (o .number) (pick l (encode (o .kept)) b) b })
+      ≡ outcome ((RECORD, not (l && z && wellKept (decode b))) ∷ longRefusal (decode b .count) (length p) ∷ []) (encode (fed (decode b) p)) b
+  unfolding pick nothing wellKept known lentFeedOutcome lentOutcome lentFeedRefusals keptRefusal outcome firstOf whenDone
+  feed-by p true true = rw once
+  feed-by p true false = refl
+  feed-by p false z = refl
+
+  finish-by : (out : List ℕ) (t : Bool)
+      → lentFinishOutcome (pick t (decode b) nothing) out
+      ≡ outcome ((RECORD, not (t && wellKept (decode b))) ∷ outRefusal (bytesAt (decode b .code)) (length out) ∷ []) (overwrite (finished (decode b)) out) out
+  unfolding pick nothing wellKept known lentFinishOutcome lentFinishRefusals keptRefusal outcome firstOf whenDone
+  finish-by out true = refl
+  finish-by out false = refl
+
+  pub feed-read : (p : List ℕ) (o : Lent) → o ≡ lentFeedOutcome (reading b) p
+      → record { number = o .number; buffer = whenDone (o .number) (written (o .kept) b) b } ≡ feedOutcome b p
+  unfolding reading framed written feedOutcome feedRefusals recordRefusal wellFormed
+  feed-read p o e = rw e (feed-by p (eqb (length b) recordLength) (allZero (take 7 (drop 1 b))))
+
+  pub finish-read : (out : List ℕ) → lentFinishOutcome (reading b) out ≡ finishOutcome b out
+  unfolding reading framed finishOutcome finishRefusals recordRefusal wellFormed
+  finish-read out = finish-by out (eqb (length b) recordLength && allZero (take 7 (drop 1 b)))

@@ -1,0 +1,79 @@
+-- The words in which demands 1 and 2 are proved of the hash: what document 01 promises under "Refusal numbers" and "The kept hash record", a
+-- sentence each.
+use mathlib.Core.Path.{_≡_}
+use mathlib.Core.Bool.{true}
+use mathlib.Core.List.{List, [], _∷_}
+use Prim.Native.Nat.{ℕ, _^_, _<_}
+use lib.ListN.{length, getD, replicate}
+use Rattle.hash_definition.specs.declared.Kept.{Kept}
+use Rattle.hash_definition.specs.declared.Lent.{Lent}
+use Rattle.definition.specs.Block.{wordsOfAll}
+use Rattle.definition.specs.State.{five}
+use Rattle.definition.specs.Luffa.{luffa}
+use Rattle.definition.specs.Buffer.{overwrite, joined}
+use Rattle.definition.specs.Refusal.{WIDTH, OUT, RECORD, LONG, Judged}
+use Rattle.hash_definition.specs.Record.{encode, decode, wellFormed, fed}
+use Rattle.hash_definition.specs.Calls.{Outcome, digestRefusals, startRefusals, feedRefusals, finishRefusals, digestOutcome, startOutcome, feedOutcome, finishOutcome}
+use Rattle.hash_definition.specs.Lent.{lentStartRefusals, lentFeedRefusals, lentFinishRefusals, lentStartOutcome, lentFeedOutcome, lentFinishOutcome}
+
+-- 0, "done": a call that is done, and the buffer or the working state that it leaves
+abbrev pub done : List ℕ → Outcome
+done buffer = record { number = 0; buffer = buffer }
+
+abbrev pub taken : Kept → Lent
+taken k = record { number = 0; kept = k }
+
+-- a call refused because "bytes so far plus this piece pass 2^61 - 1", and its buffer
+abbrev pub long : List ℕ → Outcome
+long buffer = record { number = LONG; buffer = buffer }
+
+-- the answers of calls that feed pieces in turn, and what the last of them leaves: "with feeding altering it where it stands"
+pub record Fed (A : Type 0) : Type 0 where
+  pub numbers : List ℕ
+  pub last : A
+
+-- each piece fed to what the piece before left
+module _ {A : Type 0} (number : A → List ℕ → ℕ) (next : A → List ℕ → A) where
+  unfoldable pub feedEach : A → (pieces : List (List ℕ)) → Fed A
+  feedEach a [] = record { numbers = []; last = a }
+  feedEach a (p ∷ ps) =
+      let f : Fed A = feedEach (next a p) ps in
+      record { numbers = number a p ∷ f .numbers; last = f .last }
+
+-- over a record, and over a working state
+abbrev pub feedAll : (record' : List ℕ) → (pieces : List (List ℕ)) → Fed (List ℕ)
+feedAll = feedEach (λ b p. feedOutcome b p .number) (λ b p. feedOutcome b p .buffer)
+
+abbrev pub lentFeedAll : Kept → (pieces : List (List ℕ)) → Fed Kept
+lentFeedAll = feedEach (λ k p. lentFeedOutcome k p .number) (λ k p. lentFeedOutcome k p .kept)
+
+-- Demand 2, for a code, a buffer for the record, the pieces of a message and an output buffer: starting is accepted, feeding each piece in
+-- turn is accepted each time, finishing puts the digest of the message into the output buffer, and so does digesting the message at once.
+pub record Demand2 (code : ℕ) (buffer : List ℕ) (ps : List (List ℕ)) (out : List ℕ) : Type 0 where
+  pub started : startOutcome code buffer .number ≡ 0
+  pub fed : feedAll (startOutcome code buffer .buffer) ps .numbers ≡ replicate (length ps) 0
+  pub finished : finishOutcome (feedAll (startOutcome code buffer .buffer) ps .last) out ≡ done (overwrite (luffa code (joined ps)) out)
+  pub digested : digestOutcome code (joined ps) out ≡ done (overwrite (luffa code (joined ps)) out)
+
+-- the same over a working state: finishing does what digesting the message at once does
+pub record LentDemand2 (code : ℕ) (k : Kept) (ps : List (List ℕ)) (out : List ℕ) : Type 0 where
+  pub started : lentStartOutcome code k .number ≡ 0
+  pub fed : lentFeedAll (lentStartOutcome code k .kept) ps .numbers ≡ replicate (length ps) 0
+  pub finished : lentFinishOutcome (lentFeedAll (lentStartOutcome code k .kept) ps .last) out ≡ digestOutcome code (joined ps) out
+
+-- "a well-formed record always has one defined continuation": feeding a piece to a record is accepted, the record that it leaves is well formed
+-- again, and it holds what was fed
+pub record AnyFed (record' piece : List ℕ) : Type 0 where
+  pub accepts : feedOutcome record' piece ≡ done (encode (fed (decode record') piece))
+  pub formed : wellFormed (encode (fed (decode record') piece)) ≡ true
+  pub holds : decode (encode (fed (decode record') piece)) ≡ fed (decode record') piece
+
+-- a working state whose fields fit a record's: "40 state words", "32 pending bytes", a count in eight bytes
+pub record Typed (k : Kept) : Type 0 where
+  pub words : (i : ℕ) → getD (wordsOfAll (five (k .state))) i 0 < 2 ^ 32
+  pub pending : length (k .pending) ≡ 32
+  pub count : k .count < 2 ^ 64
+
+-- the outcome of the byte form that answers an outcome over a working state
+abbrev pub inBytes : Lent → Outcome
+inBytes o = record { number = o .number; buffer = encode (o .kept) }
