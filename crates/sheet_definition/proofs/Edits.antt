@@ -86,38 +86,36 @@ module _ (w : World) (c : Call) where
   claimed (Append x) = refl
   claimed Drop = refl
 
-  -- the record that a save writes has its size
-  unfoldable pub recordOf : Kind → List ℕ
-  recordOf (Change place x) = x
-  recordOf (Append x) = x
-  recordOf Drop = replicate recordBytes 0
+  -- a new record has its size
+  module _ (x : List ℕ) where
+    pub change-size : (place : ℕ) → firstOf (refusals (Change place x)) ≡ 0 → length x ≡ recordBytes
+    unfolding refusalsOf changeRefusals buildRefusals conditionOf pick widthRefusal outRefusal sheetRefusal marksRefusal placeRefusal sizeRefusal
+    change-size place e = record-sized (length x) (fails (refusals (Change place x)) (numbered (Change place x)) e SIZE)
 
-  pub record-size : (k : Kind) → firstOf (refusals k) ≡ 0 → length (recordOf k) ≡ recordBytes
-  unfolding recordOf refusalsOf changeRefusals appendRefusals buildRefusals conditionOf pick widthRefusal outRefusal sheetRefusal marksRefusal placeRefusal fullRefusal sizeRefusal
-  record-size (Change place x) e = record-sized (length x) (fails (refusals (Change place x)) (numbered (Change place x)) e SIZE)
-  record-size (Append x) e = record-sized (length x) (fails (refusals (Append x)) (numbered (Append x)) e SIZE)
-  record-size Drop e = length-replicate {A = ℕ} recordBytes 0
+    pub append-size : firstOf (refusals (Append x)) ≡ 0 → length x ≡ recordBytes
+    unfolding refusalsOf appendRefusals buildRefusals conditionOf pick widthRefusal outRefusal sheetRefusal marksRefusal fullRefusal sizeRefusal
+    append-size e = record-sized (length x) (fails (refusals (Append x)) (numbered (Append x)) e SIZE)
 
   pub fair : (k : Kind) → firstOf (refusals k) ≡ 0 → Fair w (editOf w k)
-  unfolding refusalsOf changeRefusals appendRefusals dropRefusals buildRefusals conditionOf pick widthRefusal outRefusal sheetRefusal marksRefusal placeRefusal fullRefusal sizeRefusal claimRefusal editOf recordOf
+  unfolding refusalsOf changeRefusals appendRefusals dropRefusals buildRefusals conditionOf pick widthRefusal outRefusal sheetRefusal marksRefusal placeRefusal fullRefusal sizeRefusal claimRefusal editOf
   fair (Change place x) e =
       let none = fails (refusals (Change place x)) (numbered (Change place x)) e in
       let f : Fits w (c .out) = room (Change place x) e in
       let h : place < w .n = place-held (w .n) place (none PLACE) in
-      one-fair w place x (w .n) (w .marks) (record-size (Change place x) e) (omega arith) (omega arith) (omega arith) (omega (arith, f .sheet-room))
+      one-fair w place x (w .n) (w .marks) (change-size x place e) (omega arith) (omega arith) (omega arith) (omega (arith, f .sheet-room))
       (f .count) (f .sheet-room) (f .marks-room) (search) (λ k i j. absurd (omega arith)) (λ m i j. absurd (omega arith))
   fair (Append x) e =
       let none = fails (refusals (Append x)) (numbered (Append x)) e in
       let f : Fits w (c .out) = room (Append x) e in
       let h = one-more (w .n) (length (w .sheet)) (length (w .marks)) (none FULL) in
-      one-fair w (w .n) x (w .n + 1) (w .marks) (record-size (Append x) e) (omega arith) (omega arith) (omega arith) (h .1)
+      one-fair w (w .n) x (w .n + 1) (w .marks) (append-size x e) (omega arith) (omega arith) (omega arith) (h .1)
       (omega (arith, f .count, h .0)) (h .1) (h .2) (search) (λ k i j. absurd (omega arith)) (λ m i j. unfold q in absurd (omega arith))
   fair Drop e =
       let none = fails (refusals Drop) (numbered Drop) e in
       let f : Fits w (c .out) = room Drop e in
       let h : 0 < w .n = place-held (w .n) 0 (none PLACE) in
       let z : List ℕ = replicate recordBytes 0 in
-      let s : length z ≡ recordBytes = record-size Drop e in
+      let s : length z ≡ recordBytes = length-replicate {A = ℕ} recordBytes 0 in
       let m = without-last (w .n) (w .marks) h (f .marks-room) in
       one-fair w (w .n - 1) z (w .n - 1) (withoutLast (w .n) (w .marks)) s (omega arith) (omega arith) (omega arith) (omega (arith, f .sheet-room))
       (omega (arith, f .count)) (omega (arith, f .sheet-room)) (unfold q in omega (arith, f .marks-room)) (m .0)
@@ -143,9 +141,9 @@ module _ (w : World) (c : Call) where
     pub holds : held (e .count) (e .sheet) ≡ joined rs
 
   pub listed : (k : Kind) (rs : List (List ℕ)) → Stands w rs → firstOf (refusals k) ≡ 0 → Listed (editOf w k) (listAfter k rs)
-  unfolding refusalsOf changeRefusals appendRefusals buildRefusals conditionOf pick widthRefusal outRefusal sheetRefusal marksRefusal placeRefusal fullRefusal sizeRefusal claimRefusal editOf oneRecord recordOf listAfter held joined
+  unfolding refusalsOf changeRefusals appendRefusals buildRefusals conditionOf pick widthRefusal outRefusal sheetRefusal marksRefusal placeRefusal fullRefusal sizeRefusal claimRefusal editOf oneRecord listAfter held joined
   listed (Change place x) rs s e =
-      let n : length x ≡ recordBytes = record-size (Change place x) e in
+      let n : length x ≡ recordBytes = change-size x place e in
       let h : place < w .n = place-held (w .n) place (fails (refusals (Change place x)) (numbered (Change place x)) e PLACE) in
       record {
         sized = every-set _ rs place x n (s .sized);
@@ -157,7 +155,7 @@ module _ (w : World) (c : Call) where
         );
       }
   listed (Append x) rs s e =
-      let n : length x ≡ recordBytes = record-size (Append x) e in
+      let n : length x ≡ recordBytes = append-size x e in
       record {
         sized = every-append _ rs (x ∷ []) (s .sized) (n, tt);
         counted = omega (arith, length-append rs (x ∷ []), s .counted);

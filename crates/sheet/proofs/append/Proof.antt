@@ -13,7 +13,7 @@ use borrow.Author.Needs.{needs}
 use Rattle.sheet_definition.specs.Sheet.{World, recordBytes}
 use Rattle.sheet_definition.specs.SheetCalls.{Call, refusalsOf, oneRecord, editOf, saveOf}
 use Rattle.sheet_definition.specs.SheetCalls.Kind.{Append}
-use Rattle.sheet_definition.proofs.Edits.{recordOf, record-size, proper}
+use Rattle.sheet_definition.proofs.Edits.{append-size, proper}
 use Rattle.sheet_marks.specs.Total.{cleared}
 use Rattle.sheet_marks.proofs.Total.{cleared-none}
 use Rattle.sheet.proofs.Saved.{judged, saved}
@@ -42,12 +42,12 @@ add-more c =
 -- the record has its size, and the edit is the call's
 one : (j : tie.After-append) → j .append .result ≡ 0 → let a = entered j .args in
     (length (now (a .«record»)) ≡ recordBytes) × (oneRecord (lent j) (a .n) (now (a .«record»)) (more (a .n)) (cleared (a .n) (more (a .n)) (now (a .marks))) ≡ editOf (lent j) (asked j .kind))
-unfolding saveOf refusalsOf recordOf editOf oneRecord
+unfolding saveOf refusalsOf editOf oneRecord
 one j z =
     let a = entered j .args in
     let e = sym (j .append .ensures) ∙ z in
     let h : a .n < 1024 = omega (arith, proper (lent j) (asked j) .fair e .few) in
-    (record-size (lent j) (asked j) (asked j .kind) e, rw (lt-ltb (a .n) 1024 h, cleared-none (a .n) (a .n + 1) (now (a .marks)) (omega arith)))
+    (append-size (lent j) (asked j) (now (a .«record»)) e, rw (lt-ltb (a .n) 1024 h, cleared-none (a .n) (a .n + 1) (now (a .marks)) (omega arith)))
 
 save-requires : tie.Need-save-requires
 unfolding saveOf refusalsOf

@@ -8,7 +8,7 @@ use borrow.Author.Needs.{needs}
 use Rattle.sheet_definition.specs.Sheet.{World, recordBytes}
 use Rattle.sheet_definition.specs.SheetCalls.{Call, refusalsOf, oneRecord, editOf, saveOf}
 use Rattle.sheet_definition.specs.SheetCalls.Kind.{Change}
-use Rattle.sheet_definition.proofs.Edits.{recordOf, record-size}
+use Rattle.sheet_definition.proofs.Edits.{change-size}
 use Rattle.sheet_marks.specs.Total.{cleared}
 use Rattle.sheet_marks.proofs.Total.{cleared-none}
 use Rattle.sheet.proofs.Saved.{judged, saved}
@@ -28,10 +28,10 @@ asked j = let a = entered j .args in record { kind = Change (a .place) (now (a .
 -- the record has its size, and the edit is the call's
 one : (j : tie.After-change) → j .change .result ≡ 0 → let a = entered j .args in
     (length (now (a .«record»)) ≡ recordBytes) × (oneRecord (lent j) (a .place) (now (a .«record»)) (a .n) (cleared (a .n) (a .n) (now (a .marks))) ≡ editOf (lent j) (asked j .kind))
-unfolding saveOf refusalsOf recordOf editOf
+unfolding saveOf refusalsOf editOf
 one j z =
     let a = entered j .args in
-    (record-size (lent j) (asked j) (asked j .kind) (sym (j .change .ensures) ∙ z), rw (cleared-none (a .n) (a .n) (now (a .marks)) (omega arith)))
+    (change-size (lent j) (asked j) (now (a .«record»)) (a .place) (sym (j .change .ensures) ∙ z), rw (cleared-none (a .n) (a .n) (now (a .marks)) (omega arith)))
 
 save-requires : tie.Need-save-requires
 unfolding saveOf refusalsOf

@@ -6,14 +6,14 @@ use native.Mathlib.Decide.{decLe}
 use native.Mathlib.Omega.{arith}
 use borrow.Author.Tests.{lt-ltb, le-ltb}
 use lib.Dec.{ltb}
-use lib.ListN.{length, replicate}
+use lib.ListN.{length, replicate, length-replicate}
 use mir.Val.{boolByte}
 use denote.Ref.{now}
 use borrow.Author.Needs.{needs}
 use Rattle.sheet_definition.specs.Sheet.{World, recordBytes}
 use Rattle.sheet_definition.specs.SheetCalls.{Call, refusalsOf, oneRecord, editOf, saveOf}
 use Rattle.sheet_definition.specs.SheetCalls.Kind.{Drop}
-use Rattle.sheet_definition.proofs.Edits.{recordOf, record-size, proper}
+use Rattle.sheet_definition.proofs.Edits.{proper}
 use Rattle.sheet_marks.specs.Total.{cleared}
 use Rattle.sheet_marks.proofs.Total.{cleared-fewer}
 use Rattle.sheet.proofs.Saved.{judged, saved}
@@ -42,12 +42,12 @@ sub-last c =
 -- the record has its size, and the edit is the call's
 one : (j : tie.After-drop) → j .drop .result ≡ 0 → let a = entered j .args in
     (length {A = ℕ} (replicate recordBytes 0) ≡ recordBytes) × (oneRecord (lent j) (last (a .n)) (replicate recordBytes 0) (last (a .n)) (cleared (a .n) (last (a .n)) (now (a .marks))) ≡ editOf (lent j) (asked j .kind))
-unfolding saveOf refusalsOf recordOf editOf oneRecord
+unfolding saveOf refusalsOf editOf oneRecord
 one j z =
     let a = entered j .args in
     let e = sym (j .drop .ensures) ∙ z in
     let h : 0 < a .n = omega (arith, proper (lent j) (asked j) .fair e .past-held) in
-    (record-size (lent j) (asked j) (asked j .kind) e, rw (lt-ltb 0 (a .n) h, cleared-fewer (a .n) (a .n - 1) (now (a .marks)) (omega arith) (proper (lent j) (asked j) .room e .marks-room)))
+    (length-replicate {A = ℕ} recordBytes 0, rw (lt-ltb 0 (a .n) h, cleared-fewer (a .n) (a .n - 1) (now (a .marks)) (omega arith) (proper (lent j) (asked j) .room e .marks-room)))
 
 save-requires : tie.Need-save-requires
 unfolding saveOf refusalsOf
