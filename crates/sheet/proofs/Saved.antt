@@ -20,7 +20,7 @@ use Rattle.sheet_definition.proofs.Saves.{check-rounds}
 use Rattle.sheet_definition.proofs.Edits.{proper}
 use Rattle.sheet_marks.specs.Total.{cleared}
 use Rattle.sheet_marks.proofs.Total.{cleared-none, cleared-fewer}
-use Rattle.sheet.specs.Save.{Judged, recordSave}
+use Rattle.sheet.specs.Save.{Valid, recordSave}
 
 -- the check takes few rounds
 pub few-rounds : (w : World) → recordBytes * w .n ≤ length (w .sheet) → checked w .rounds < 2 ^ 32
@@ -42,7 +42,7 @@ put-together w number place count x claim out₀ before rounds sheet marks marks
 module _ (w : World) (c : Call) (place : ℕ) (x : List ℕ) (count : ℕ) {k : ℕ} (e : k ≡ firstOf (saveOf w c .refusals))
     (s : k ≡ 0 → (length x ≡ recordBytes) × (oneRecord w place x count (cleared (w .n) count (w .marks)) ≡ editOf w (c .kind))) where
   pub judged : k ≡ 0
-      → Judged (w .code) (length (w .sheet)) (w .n) (length (w .marks)) place (length x) count (length (c .claim)) (length (c .out))
+      → Valid (w .code) (length (w .sheet)) (w .n) (length (w .marks)) place (length x) count (length (c .claim)) (length (c .out))
   unfolding saveOf oneRecord q
   judged z =
       let p = proper w c in

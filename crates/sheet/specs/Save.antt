@@ -12,7 +12,7 @@ use Rattle.sheet_definition.specs.SheetCalls.{oneRecord}
 use Rattle.sheet_marks.specs.Total.{cleared}
 
 -- the numbers that the arguments keep to where none of them is refused, from n records to count; lengths stand for the buffers
-pub record Judged (code sheet n marks place record' count claim out : ℕ) : Type 0 where
+pub record Valid (code sheet n marks place record' count claim out : ℕ) : Type 0 where
   pub out-room : bytesAt code ≤ out
   pub few : n ≤ most
   pub sheet-room : recordBytes * n ≤ sheet

@@ -4,7 +4,7 @@ ghost use mathlib.Core.Path.{_≡_};
 ghost use lib.ListN.{length};
 ghost use Rattle.sheet_definition.specs.SheetCalls.{buildOutcome, changeOutcome, appendOutcome, dropOutcome};
 ghost use Rattle.sheet_definition.specs.Save.{saveOutcome};
-ghost use Rattle.sheet.specs.Save.{Judged, recordSave};
+ghost use Rattle.sheet.specs.Save.{Valid, recordSave};
 use refusals::DONE;
 use sheet_definition::Answer;
 use sheet_definition::MOST;
@@ -45,7 +45,7 @@ fn save(
     claim: &[u8],
     out: &mut [u8],
 ) -> Answer
-    requires { ⌜ (number ≡ 0 → Judged code (length (now sheet)) n (length (now marks)) place (length (now «record»)) count (length (now claim)) (length (now out))) ⌝ }
+    requires { ⌜ (number ≡ 0 → Valid code (length (now sheet)) n (length (now marks)) place (length (now «record»)) count (length (now claim)) (length (now out))) ⌝ }
     ensures { λ r. ⌜ record { answer = r; sheet = now (sheet .exit); marks = now (marks .exit); out = now (out .exit) } ≡ saveOutcome (record { code = code; n = n; sheet = now (sheet .entry); marks = now (marks .entry) }) (recordSave number (record { code = code; n = n; sheet = now (sheet .entry); marks = now (marks .entry) }) place (now («record» .entry)) count (now (claim .entry)) (now (out .entry))) ⌝ }
 {
     let begun = sheet_work::admit(number, code, sheet, n, marks, claim);

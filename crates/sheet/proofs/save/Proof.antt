@@ -13,7 +13,7 @@ use Rattle.sheet_definition.proofs.Outcomes.{accepted}
 use Rattle.bytes.proofs.Total.{write-at, length-writeAt}
 use Rattle.sheet_marks.specs.Total.{cleared}
 use Rattle.sheet_work.proofs.Admission.{turned-away, goes-on}
-use Rattle.sheet.specs.Save.{Judged, recordSave}
+use Rattle.sheet.specs.Save.{Valid, recordSave}
 use Rattle.sheet.proofs.Saved.{few-rounds, put-together}
 use Rattle.sheet.proofs.save.Statement.{statement}
 use Rattle.sheet.proofs.save.Tie as tie
@@ -49,7 +49,7 @@ goes c =
     goes-on (lent k) (asked k) refl refl (k .admit .ensures .0) (c .if1 .left)
 
 valid : (c : tie.Else1) → let a = entered (admitted c) .args in
-    Judged (a .code) (length (now (a .sheet))) (a .n) (length (now (a .marks))) (a .place) (length (now (a .«record»))) (a .count) (length (now (a .claim))) (length (now (a .out)))
+    Valid (a .code) (length (now (a .sheet))) (a .n) (length (now (a .marks))) (a .place) (length (now (a .«record»))) (a .count) (length (now (a .claim))) (length (now (a .out)))
 valid c = entered (admitted c) .pre (goes c .0)
 
 work-on-requires : tie.Need-work-on-requires
@@ -64,7 +64,7 @@ work-on-requires c κs =
       omega (arith, j .new-sheet-room, ap length (p .put-bytes .ensures) ∙ length-writeAt _ _ _),
       omega (arith, j .new-marks-room, ap length (k .admit .ensures .1), m .clear .kept .0),
       omega (arith, j .in-groups),
-      rw (goes e .1 .0) (few-rounds (lent k) (j .sheet-room)),
+      omega (arith, goes e .1 .0, few-rounds (lent k) (j .sheet-room)),
       j .out-room,
     )
 
