@@ -1,4 +1,5 @@
--- What a call leaves in a buffer, some elements written at a place, the others as they were; whether two buffers hold the same, and pieces joined.
+-- What a call leaves in a buffer, some elements written at a place, the others as they were; whether two buffers hold the same, pieces joined, and
+-- a property of every element of a list.
 use Prim.Native.Nat.{ℕ, _+_}
 use mathlib.Core.List.{List, [], _∷_, _++_}
 use mathlib.Core.Bool.{Bool, true, false, _&&_}
