@@ -6,6 +6,9 @@ PREFIX ?= /usr/local
 VERSION := 1.0.0
 SONAME := libluffa.so.1
 
+# rt compiles for x86-64 alone: on another processor the compiler that links is one for x86-64.
+GCC := $(if $(filter x86_64,$(shell uname -m)),gcc,x86_64-linux-gnu-gcc)
+
 # The tests name others here, so as to leave these alone.
 LUFFA_ARCHIVE ?= target/staticlib/libluffa.a
 LUFFA_LIB ?= target/lib
@@ -29,7 +32,7 @@ target/bin/luffasum: $(SOURCES)
 # -z defs: a name that neither the archive nor the C library has is an error here already.
 $(LUFFA_LIB)/libluffa.so: $(LUFFA_ARCHIVE) luffa.map
 	mkdir -p $(LUFFA_LIB)
-	gcc -shared -Wl,-soname,$(SONAME) -Wl,--version-script,luffa.map -Wl,-z,defs \
+	$(GCC) -shared -Wl,-soname,$(SONAME) -Wl,--version-script,luffa.map -Wl,-z,defs \
 	    -Wl,--whole-archive $(LUFFA_ARCHIVE) -Wl,--no-whole-archive -o $(LUFFA_LIB)/$(SONAME)
 	ln -sf $(SONAME) $@
 
