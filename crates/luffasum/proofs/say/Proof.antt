@@ -19,13 +19,5 @@ fits c =
 pub say-spec : {M : Type 1} → statement M
 say-spec =
     tie.close
-    (tie.spec
-    (λ c. search needs)
-    (λ c κs. search needs)
-    (λ c. fits (c .before))
-    (λ c. sym (length-take-le _ _ (fits (c .before .before))))
-    (λ c κs. search needs)
-    (λ c. search needs)
-    (λ c κs. search needs)
-    (λ c. search needs)
-    (λ c. search needs))
+    (tie.spec (λ c. search needs) (λ c κs. search needs) (λ c. fits (c .before)) (λ c. sym (length-take-le _ _ (fits (c .before .before))))
+    (λ c κs. search needs) (λ c. search needs) (λ c κs. search needs) (λ c. search needs) (λ c. search needs))

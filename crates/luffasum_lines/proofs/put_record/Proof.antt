@@ -88,16 +88,5 @@ returns-3 c =
 pub put-record-spec : {M : Type 1} → statement M
 put-record-spec =
     tie.close
-    (tie.spec
-    (λ c κs. tt)
-    returns
-    returns-2
-    (λ c. search needs)
-    (λ c κs. tt)
-    (λ c κs. tt)
-    mul-n
-    (λ c. within (c .before))
-    (λ c. sym (length-take-le _ _ (within (c .before .before))))
-    put-line-requires
-    (λ c. search needs)
-    returns-3)
+    (tie.spec (λ c κs. tt) returns returns-2 (λ c. search needs) (λ c κs. tt) (λ c κs. tt) mul-n (λ c. within (c .before))
+    (λ c. sym (length-take-le _ _ (within (c .before .before)))) put-line-requires (λ c. search needs) returns-3)
