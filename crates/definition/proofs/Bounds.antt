@@ -11,7 +11,7 @@ use Rattle.definition.specs.declared.Block.{Block}
 use Rattle.definition.specs.declared.Pair.{Pair}
 use Rattle.definition.specs.declared.Width.{Width}
 use Rattle.definition.specs.declared.Width.the-variants.{W3, W4, W5}
-use Rattle.definition.specs.Word.{bit, fromBits, rotl}
+use Rattle.definition.specs.Word.{bit, rotl}
 use Rattle.definition.specs.Block.{zeroBlock, wordsOf, wordsOfAll}
 use Rattle.definition.specs.SubCrumb.{S, sboxInput, subWord, subCrumb}
 use Rattle.definition.specs.MixWord.{mixWord}

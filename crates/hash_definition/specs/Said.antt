@@ -11,10 +11,10 @@ use Rattle.definition.specs.Block.{wordsOfAll}
 use Rattle.definition.specs.State.{five}
 use Rattle.definition.specs.Luffa.{luffa}
 use Rattle.definition.specs.Buffer.{overwrite, joined}
-use Rattle.definition.specs.Refusal.{WIDTH, OUT, RECORD, LONG, Judged}
+use Rattle.definition.specs.Refusal.{LONG}
 use Rattle.hash_definition.specs.Record.{encode, decode, wellFormed, fed}
-use Rattle.hash_definition.specs.Calls.{Outcome, digestRefusals, startRefusals, feedRefusals, finishRefusals, digestOutcome, startOutcome, feedOutcome, finishOutcome}
-use Rattle.hash_definition.specs.Lent.{lentStartRefusals, lentFeedRefusals, lentFinishRefusals, lentStartOutcome, lentFeedOutcome, lentFinishOutcome}
+use Rattle.hash_definition.specs.Calls.{Outcome, digestOutcome, startOutcome, feedOutcome, finishOutcome}
+use Rattle.hash_definition.specs.Lent.{lentStartOutcome, lentFeedOutcome, lentFinishOutcome}
 
 -- 0, "done": a call that is done, and the buffer or the working state that it leaves
 abbrev pub done : List ℕ → Outcome

@@ -20,7 +20,7 @@ use Rattle.hash_definition.proofs.WorkingDemand2.{lent-feed-done, lent-feed-lon
 use Rattle.luffasum_lines.specs.declared.End.{End}
 use Rattle.luffasum_lines.specs.declared.End.the-variants.{Whole, Failed}
 use Rattle.luffasum_lines.specs.declared.Records.{Records}
-use Rattle.luffasum_lines.specs.Line.{lineEnd, digit, line, messageLine, fourLines}
+use Rattle.luffasum_lines.specs.Line.{lineEnd, digit, messageLine, fourLines}
 use Rattle.luffasum_lines.specs.Text.{recordLine, fourRecords, textAt, text, startedRecords, fedEach, fedRecords, program}
 use Rattle.luffasum_lines.proofs.Held.{length-finished, held, text-four}
 

@@ -7,8 +7,7 @@ use mathlib.Core.List.{List, [], _∷_}
 use Prim.Native.Nat.{ℕ, zero, suc, _<_, _≤_}
 use native.Mathlib.Nat.{le-refl}
 use native.Mathlib.Omega.{arith}
-use Rattle.definition.specs.Refusal.{Refusal, firstOf}
-use Rattle.definition.specs.Buffer.{Every}
+use Rattle.definition.specs.Refusal.{firstOf}
 use Rattle.definition.specs.Refusal.{First}
 use Rattle.definition.proofs.Refusals.{of-first, first-given, given-first, none-exactly}
 use Rattle.plan_definition.specs.declared.Well.{Well}

@@ -1,10 +1,10 @@
 -- A save of one record put together from what its parts leave; and that it is the call that it was judged for.
 -- Assumes nothing.
-use mathlib.Core.Path.{_≡_, refl, sym, ap, _∙_}
+use mathlib.Core.Path.{_≡_, refl, sym, _∙_}
 use mathlib.Core.List.{List}
 use Prim.Native.Nat.{ℕ, zero, suc, _+_, _*_, _^_, _<_, _≤_}
 use native.Mathlib.Omega.{arith}
-use lib.ListN.{length, replicate, length-replicate}
+use lib.ListN.{length}
 use Rattle.definition.specs.Start.{start}
 use Rattle.definition.specs.Width.{widthAt}
 use Rattle.definition.specs.Final.{finalRounds}
@@ -13,13 +13,12 @@ use Rattle.definition.specs.Refusal.{pick, firstOf, whenDone}
 use Rattle.sheet_definition.specs.Sheet.{World, recordBytes, q, r, F, checkRounds}
 use Rattle.sheet_definition.specs.Marks.{markOf, worked}
 use Rattle.sheet_definition.specs.Save.{SheetOutcome, doneWith, checked, reworked, saveOutcome}
-use Rattle.sheet_definition.specs.SheetCalls.{Kind, Call, oneRecord, withoutLast, editOf, saveOf, call}
+use Rattle.sheet_definition.specs.SheetCalls.{Call, oneRecord, editOf, saveOf, call}
 use Rattle.definition.proofs.Codes.{words-le}
-use Rattle.sheet_definition.proofs.Outcomes.{accepted, refused-is}
+use Rattle.sheet_definition.proofs.Outcomes.{accepted}
 use Rattle.sheet_definition.proofs.Saves.{check-rounds}
 use Rattle.sheet_definition.proofs.Edits.{proper}
 use Rattle.sheet_marks.specs.Total.{cleared}
-use Rattle.sheet_marks.proofs.Total.{cleared-none, cleared-fewer}
 use Rattle.sheet.specs.Save.{Valid, recordSave}
 
 -- the check takes few rounds

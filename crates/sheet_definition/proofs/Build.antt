@@ -1,21 +1,20 @@
 -- An accepted build leaves true marks, whatever they were, and hands out Luffa of the sheet, in document 01's rounds.
 -- Assumes nothing.
 use mathlib.Core.Path.{_≡_, refl, sym, ap, _∙_}
-use mathlib.Core.Logic.{_↔_}
-use mathlib.Core.List.{List, [], append-nil}
+use mathlib.Core.List.{List}
 use Prim.Native.Nat.{ℕ, zero, suc, _+_, _*_, _≤_}
 use native.Mathlib.Nat.{zero-add}
 use native.Mathlib.Omega.{arith}
-use lib.ListN.{length, take, drop}
+use lib.ListN.{length, drop}
 use Rattle.definition.specs.declared.Width.{Width}
 use Rattle.definition.specs.Round.{chain}
 use Rattle.definition.specs.Padding.{blocks, blocksTo}
 use Rattle.definition.specs.Start.{start}
 use Rattle.definition.specs.Width.{widthAt}
 use Rattle.definition.specs.Buffer.{overwrite}
-use Rattle.definition.specs.Refusal.{First, NoneHolds, firstOf, whenDone, widthRefusal, outRefusal}
+use Rattle.definition.specs.Refusal.{firstOf, whenDone}
 use Rattle.sheet_definition.specs.Sheet.{World, markWords, q, buildRounds}
-use Rattle.sheet_definition.specs.Refusals.{lengthsOf, sheetRefusal, marksRefusal, buildRefusals}
+use Rattle.sheet_definition.specs.Refusals.{lengthsOf, buildRefusals}
 use Rattle.sheet_definition.specs.Marks.{Worked, markAt, stateFrom, markOf, worked, stateAfter, TrueMark}
 use Rattle.sheet_definition.specs.Save.{SheetOutcome, refusedWith, doneWith}
 use Rattle.sheet_definition.specs.SheetCalls.{buildOutcome}

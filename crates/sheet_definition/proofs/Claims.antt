@@ -1,17 +1,17 @@
 -- What a claim is worth: a record saved as it is, a change taken back, and two saves with one claim.
 -- Assumes nothing.
 use mathlib.Core.Path.{_≡_, refl, sym, ap, ap₂, _∙_}
-use mathlib.Core.List.{List, [], _∷_}
-use Prim.Native.Nat.{ℕ, _+_, _*_, _<_, _≤_}
+use mathlib.Core.List.{List}
+use Prim.Native.Nat.{ℕ, _+_, _*_, _<_}
 use native.Mathlib.Omega.{arith}
 use lib.ListN.{length, take, drop, length-drop}
 use lib.Seq.{length-take-le}
 use borrow.Author.Tests.{eq-eqb, lt-leb}
 use Rattle.definition.specs.Luffa.{bytesAt, digestAfter, luffa}
 use Rattle.definition.specs.Buffer.{joined}
-use Rattle.definition.specs.Refusal.{pick, firstOf, widthRefusal, outRefusal}
-use Rattle.sheet_definition.specs.Sheet.{World, recordBytes, q}
-use Rattle.sheet_definition.specs.Refusals.{lengthsOf, sheetRefusal, marksRefusal, placeRefusal, sizeRefusal, claimRefusal, buildRefusals, changeRefusals}
+use Rattle.definition.specs.Refusal.{pick, firstOf}
+use Rattle.sheet_definition.specs.Sheet.{World, recordBytes}
+use Rattle.sheet_definition.specs.Refusals.{lengthsOf, placeRefusal, sizeRefusal, claimRefusal, buildRefusals, changeRefusals}
 use Rattle.sheet_definition.specs.Marks.{held, TrueMarks}
 use Rattle.sheet_definition.specs.Save.{refusedWith, doneWith}
 use Rattle.sheet_definition.specs.SheetCalls.{Call, refusalsOf, oneRecord, editOf, saveOf, call, changing}

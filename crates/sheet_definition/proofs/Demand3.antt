@@ -1,24 +1,23 @@
 -- Demand 3 over any run of saves, each with any arguments: after every call the marks are true and the sheet is the plain list of records, the
 -- digest handed out is Luffa of that list, and a claim is refused as stale exactly when it isn't Luffa of the list as it stood.
 -- Assumes nothing.
-use mathlib.Core.Path.{_≡_, refl, sym, ap, ap₂, _∙_}
+use mathlib.Core.Path.{_≡_, refl, sym, ap, _∙_}
 use mathlib.Core.List.{List, [], _∷_}
-use Prim.Native.Nat.{ℕ, zero, suc, _+_, _*_, _≤_}
+use Prim.Native.Nat.{ℕ, _+_}
 use native.Mathlib.Omega.{arith}
-use lib.ListN.{length, take, drop}
+use lib.ListN.{length}
 use Rattle.definition.specs.Luffa.{luffa}
-use Rattle.definition.specs.Buffer.{overwrite, joined}
+use Rattle.definition.specs.Buffer.{overwrite}
 use Rattle.definition.specs.Refusal.{firstOf}
-use Rattle.sheet_definition.specs.Sheet.{World, recordBytes, markWords, q}
-use Rattle.sheet_definition.specs.Marks.{held, TrueMarks}
-use Rattle.sheet_definition.specs.Save.{SheetOutcome, refusedWith, doneWith}
+use Rattle.sheet_definition.specs.Sheet.{World, q}
+use Rattle.sheet_definition.specs.Marks.{held}
+use Rattle.sheet_definition.specs.Save.{refusedWith, doneWith}
 use Rattle.sheet_definition.specs.SheetCalls.{buildOutcome, Call, saveOf, call}
 use Rattle.sheet_definition.specs.Run.{left, next, run, applied, records, cut}
-use Rattle.sheet_definition.specs.Said.{Stale, Stands, Written, Untouched, Stays, After}
+use Rattle.sheet_definition.specs.Said.{Stands, Stays, After}
 use Rattle.sheet_definition.proofs.Outcomes.{accepted, by-answer, given, refused-untouched}
-use Rattle.sheet_definition.proofs.Refused.{Fits}
 use Rattle.sheet_definition.proofs.Saves.{Made, save-rounds, save-stays, save-marks, past-stays, save-made, save-built, save-freed, save-accepted, save-stale}
-use Rattle.sheet_definition.proofs.Edits.{proper, Listed, listed}
+use Rattle.sheet_definition.proofs.Edits.{proper, listed}
 use Rattle.sheet_definition.proofs.Build.{build-fits, build-made, BuildStays, build-stays}
 use Rattle.sheet_definition.proofs.Joined.{length-cut, forty-cut, joined-cut}
 

@@ -1,18 +1,18 @@
 -- Each kind of save is proper, and makes of the plain list of records what document 01 says.
 -- Assumes nothing.
-use mathlib.Core.Path.{_≡_, refl, sym, ap, _∙_}
+use mathlib.Core.Path.{_≡_, refl, sym, _∙_}
 use mathlib.Core.List.{List, [], _∷_, append-nil}
 use Prim.Native.Nat.{ℕ, _+_, _-_, _*_, _<_, _≤_}
 use native.Mathlib.Decide.{ℕ-discrete}
 use native.Mathlib.Omega.{arith}
-use lib.ListN.{length, take, drop, replicate, length-append, length-set, length-replicate}
+use lib.ListN.{length, replicate, length-append, length-set, length-replicate}
 use lib.Seq.{length-take-le, take-take}
 use borrow.Author.Tests.{eq-eqb, ne-eqb}
 use Rattle.definition.specs.Luffa.{bytesAt}
 use Rattle.definition.specs.Buffer.{Every, overwriteAt, joined}
-use Rattle.definition.specs.Refusal.{Refusal, PLACE, FULL, SIZE, CLAIM, pick, firstOf, conditionOf, widthRefusal, outRefusal}
-use Rattle.sheet_definition.specs.Sheet.{World, most, recordBytes, markWords, q, r}
-use Rattle.sheet_definition.specs.Refusals.{lengthsOf, sheetRefusal, marksRefusal, placeRefusal, fullRefusal, sizeRefusal, claimRefusal, buildRefusals, changeRefusals, appendRefusals, dropRefusals}
+use Rattle.definition.specs.Refusal.{Refusal, PLACE, FULL, SIZE, CLAIM, pick, firstOf, conditionOf}
+use Rattle.sheet_definition.specs.Sheet.{World, recordBytes, markWords, q, r}
+use Rattle.sheet_definition.specs.Refusals.{lengthsOf, claimRefusal}
 use Rattle.sheet_definition.specs.Marks.{held, markAt}
 use Rattle.sheet_definition.specs.Save.{Edit}
 use Rattle.sheet_definition.specs.SheetCalls.{Kind, Call, refusalsOf, oneRecord, withoutLast, editOf, saveOf}
@@ -24,7 +24,7 @@ use Rattle.definition.proofs.Buffer.{length-overwriteAt, take-overwriteAt, drop
 use Rattle.definition.proofs.Refusals.{Numbered, fails}
 use Rattle.sheet_definition.proofs.Joined.{joined-append, joined-take, joined-set, take-overwritten, take-added}
 use Rattle.sheet_definition.proofs.Writes.{Rewritten}
-use Rattle.sheet_definition.proofs.Refused.{Fits, fits, place-held, one-more, record-sized, claim-sized}
+use Rattle.sheet_definition.proofs.Refused.{Fits, fits, place-held, one-more, record-sized, claim-sized, judging}
 use Rattle.sheet_definition.proofs.Fair.{Fair, Proper, read-written, one-fair}
 
 -- "When r = 0 it zeroes mark q.", and else none
@@ -63,25 +63,25 @@ module _ (w : World) (c : Call) where
   refusals k = refusalsOf (lengthsOf w (c .out)) (length (c .claim)) k
 
   pub numbered : (k : Kind) → Numbered (refusals k)
-  unfolding refusalsOf changeRefusals appendRefusals dropRefusals buildRefusals widthRefusal outRefusal sheetRefusal marksRefusal placeRefusal fullRefusal sizeRefusal claimRefusal
+  unfolding judging
   numbered (Change place x) = omega arith
   numbered (Append x) = omega arith
   numbered Drop = omega arith
 
   earlier : (k : Kind) → Every (λ x. Stale (x .0) → ⊥) (refusals k)
-  unfolding refusalsOf changeRefusals appendRefusals dropRefusals buildRefusals widthRefusal outRefusal sheetRefusal marksRefusal placeRefusal fullRefusal sizeRefusal claimRefusal
+  unfolding judging
   earlier (Change place x) = omega arith
   earlier (Append x) = omega arith
   earlier Drop = omega arith
 
   pub room : (k : Kind) → firstOf (refusals k) ≡ 0 → Fits w (c .out)
-  unfolding refusalsOf changeRefusals appendRefusals dropRefusals
+  unfolding judging
   room (Change place x) e = fits w (c .out) _ (numbered (Change place x)) e
   room (Append x) e = fits w (c .out) _ (numbered (Append x)) e
   room Drop e = fits w (c .out) _ (numbered Drop) e
 
   claimed : (k : Kind) → conditionOf CLAIM (refusals k) ≡ claimRefusal (bytesAt (w .code)) (length (c .claim)) .1
-  unfolding refusalsOf changeRefusals appendRefusals dropRefusals buildRefusals conditionOf pick widthRefusal outRefusal sheetRefusal marksRefusal placeRefusal fullRefusal sizeRefusal claimRefusal
+  unfolding judging
   claimed (Change place x) = refl
   claimed (Append x) = refl
   claimed Drop = refl
@@ -89,15 +89,15 @@ module _ (w : World) (c : Call) where
   -- a new record has its size
   module _ (x : List ℕ) where
     pub change-size : (place : ℕ) → firstOf (refusals (Change place x)) ≡ 0 → length x ≡ recordBytes
-    unfolding refusalsOf changeRefusals buildRefusals conditionOf pick widthRefusal outRefusal sheetRefusal marksRefusal placeRefusal sizeRefusal
+    unfolding judging
     change-size place e = record-sized (length x) (fails (refusals (Change place x)) (numbered (Change place x)) e SIZE)
 
     pub append-size : firstOf (refusals (Append x)) ≡ 0 → length x ≡ recordBytes
-    unfolding refusalsOf appendRefusals buildRefusals conditionOf pick widthRefusal outRefusal sheetRefusal marksRefusal fullRefusal sizeRefusal
+    unfolding judging
     append-size e = record-sized (length x) (fails (refusals (Append x)) (numbered (Append x)) e SIZE)
 
   pub fair : (k : Kind) → firstOf (refusals k) ≡ 0 → Fair w (editOf w k)
-  unfolding refusalsOf changeRefusals appendRefusals dropRefusals buildRefusals conditionOf pick widthRefusal outRefusal sheetRefusal marksRefusal placeRefusal fullRefusal sizeRefusal claimRefusal editOf
+  unfolding judging editOf
   fair (Change place x) e =
       let none = fails (refusals (Change place x)) (numbered (Change place x)) e in
       let f : Fits w (c .out) = room (Change place x) e in
@@ -141,7 +141,7 @@ module _ (w : World) (c : Call) where
     pub holds : held (e .count) (e .sheet) ≡ joined rs
 
   pub listed : (k : Kind) (rs : List (List ℕ)) → Stands w rs → firstOf (refusals k) ≡ 0 → Listed (editOf w k) (listAfter k rs)
-  unfolding refusalsOf changeRefusals appendRefusals buildRefusals conditionOf pick widthRefusal outRefusal sheetRefusal marksRefusal placeRefusal fullRefusal sizeRefusal claimRefusal editOf oneRecord listAfter held joined
+  unfolding judging editOf oneRecord listAfter held joined
   listed (Change place x) rs s e =
       let n : length x ≡ recordBytes = change-size x place e in
       let h : place < w .n = place-held (w .n) place (fails (refusals (Change place x)) (numbered (Change place x)) e PLACE) in

@@ -1,8 +1,8 @@
 -- Document 01's "Examples at the edges" that are marked [P], as one table under one theorem.
 -- Assumes nothing.
-use Prim.Native.Nat.{ℕ, _+_}
+use Prim.Native.Nat.{ℕ}
 use mathlib.Core.Path.{_≡_, refl, _∙_}
-use mathlib.Core.List.{List, [], _∷_}
+use mathlib.Core.List.{List}
 use native.Mathlib.Nat.{zero-lt-suc}
 use lib.ListN.{length, take, getD, replicate}
 use Rattle.definition.specs.declared.Pair.{Pair}
@@ -15,7 +15,7 @@ use Rattle.definition.specs.Constant.{constants}
 use Rattle.definition.specs.Round.{chain}
 use Rattle.definition.specs.Padding.{closing, padded, blocks}
 use Rattle.definition.specs.Refusal.{firstOf, PLACE}
-use Rattle.sheet_definition.specs.Sheet.{World, groupBytes, markWords, buildRounds}
+use Rattle.sheet_definition.specs.Sheet.{World, groupBytes, markWords}
 use Rattle.sheet_definition.specs.Refusals.{changeRefusals}
 use Rattle.sheet_definition.specs.Marks.{markAt, stateFrom, markOf}
 use Rattle.sheet_definition.specs.Save.{saveRounds}

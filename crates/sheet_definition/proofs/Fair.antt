@@ -1,7 +1,7 @@
 -- A fair edit keeps what it doesn't name and has room for what it leaves; a proper save makes one where its refusals don't hold. One record
 -- written at a place is a fair edit.
 -- Assumes nothing.
-use mathlib.Core.Path.{_≡_, _∙_}
+use mathlib.Core.Path.{_≡_}
 use mathlib.Core.List.{List, _++_, append-assoc}
 use Prim.Native.Nat.{ℕ, _+_, _-_, _*_, _<_, _≤_}
 use native.Mathlib.Omega.{arith}

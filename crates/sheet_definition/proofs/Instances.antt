@@ -11,7 +11,6 @@ use Rattle.definition.specs.Luffa.{luffa}
 use Rattle.definition.specs.Buffer.{same, joined}
 use Rattle.definition.specs.Refusal.{firstOf}
 use Rattle.sheet_definition.specs.Sheet.{World}
-use Rattle.sheet_definition.specs.Refusals.{lengthsOf, buildRefusals}
 use Rattle.sheet_definition.specs.SheetCalls.{buildOutcome, Call, saveOf, call, changing}
 use Rattle.sheet_definition.specs.SheetCalls.Kind.{Drop}
 use Rattle.sheet_definition.specs.Run.{left, next, run, listAfter, applied, cut}

@@ -20,7 +20,7 @@ use Rattle.definition.specs.Start.{start}
 use Rattle.definition.specs.State.{five, blocksIn, stateOf}
 use Rattle.definition.specs.Buffer.{overwriteAt}
 use Rattle.definition.specs.Luffa.{digestAfter, luffa}
-use Rattle.sheet_definition.specs.Sheet.{World, recordBytes, groupBytes, markWords, q, N, F, roundsFrom}
+use Rattle.sheet_definition.specs.Sheet.{recordBytes, groupBytes, markWords, q, N, F, roundsFrom}
 use Rattle.sheet_definition.specs.Marks.{held, markAt, blockFrom, stateFrom, markOf, marksAfter, roundsAfter, worked, stateAfter, TrueMark, TrueMarks}
 use Rattle.definition.proofs.Chain.{chain-append, blocks-of-state, length-chain, length-start}
 use Rattle.definition.proofs.Padding.{blocks-append, length-padding}

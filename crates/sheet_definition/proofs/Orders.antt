@@ -6,16 +6,16 @@ use mathlib.Core.Bool.{true}
 use mathlib.Core.List.{List, [], _∷_, _++_}
 use Prim.Native.Nat.{ℕ}
 use native.Mathlib.Omega.{arith}
-use Rattle.definition.specs.Refusal.{Refusal, Judged, WIDTH, OUT, SHEET, MARKS, PLACE, FULL, SIZE, CLAIM, STALE, numbersOf, rising, widthRefusal, outRefusal}
+use Rattle.definition.specs.Refusal.{Refusal, Judged, WIDTH, OUT, SHEET, MARKS, PLACE, FULL, SIZE, CLAIM, STALE, numbersOf, rising}
 use Rattle.sheet_definition.specs.Sheet.{World}
-use Rattle.sheet_definition.specs.Refusals.{lengthsOf, sheetRefusal, marksRefusal, placeRefusal, fullRefusal, sizeRefusal, claimRefusal, buildRefusals, changeRefusals, appendRefusals, dropRefusals}
+use Rattle.sheet_definition.specs.Refusals.{lengthsOf, buildRefusals}
 use Rattle.sheet_definition.specs.Save.{staleClaim}
-use Rattle.sheet_definition.specs.SheetCalls.{buildOutcome, Kind, Call, refusalsOf, saveOf, call}
+use Rattle.sheet_definition.specs.SheetCalls.{buildOutcome, Kind, Call, saveOf, call}
 use Rattle.sheet_definition.specs.SheetCalls.Kind.{Change, Append, Drop}
 use Rattle.definition.proofs.Every.{every-append}
 use Rattle.definition.proofs.Refusals.{judged}
 use Rattle.sheet_definition.proofs.Outcomes.{number-is}
-use Rattle.sheet_definition.proofs.Refused.{built-numbered}
+use Rattle.sheet_definition.proofs.Refused.{built-numbered, judging}
 use Rattle.sheet_definition.proofs.Edits.{proper}
 use Rattle.sheet_definition.proofs.Build.{build-number}
 
@@ -37,7 +37,7 @@ order-rising (Append x) = refl
 order-rising Drop = refl
 
 save-order : (w : World) (c : Call) (k : Kind) → numbersOf (allOf w (record { kind = k; claim = c .claim; out = c .out })) ≡ orderOf k
-unfolding saveOf refusalsOf changeRefusals appendRefusals dropRefusals numbersOf buildRefusals widthRefusal outRefusal sheetRefusal marksRefusal placeRefusal fullRefusal sizeRefusal claimRefusal orderOf
+unfolding judging saveOf orderOf
 save-order w c (Change place x) = refl
 save-order w c (Append x) = refl
 save-order w c Drop = refl
@@ -54,7 +54,7 @@ save-judged w c =
 pub build-judged : (code : ℕ) (sheet : List ℕ) (n : ℕ) (marks out : List ℕ)
     → Judged (buildOutcome code sheet n marks out .answer .number) (buildRefusals (lengthsOf (record { code = code; n = n; sheet = sheet; marks = marks }) out))
     (WIDTH ∷ OUT ∷ SHEET ∷ MARKS ∷ [])
-unfolding numbersOf buildRefusals widthRefusal outRefusal sheetRefusal marksRefusal
+unfolding judging
 build-judged code sheet n marks out =
     let l = lengthsOf (record { code = code; n = n; sheet = sheet; marks = marks }) out in
     judged (buildRefusals l) (built-numbered l) (build-number code sheet n marks out)

@@ -4,10 +4,10 @@ use mathlib.Core.Path.{_≡_, refl, sym, ap₂, _∙_}
 use mathlib.Core.List.{List, [], _∷_, _++_}
 use Prim.Native.Nat.{ℕ, zero, suc, _+_, _*_, _<_}
 use native.Mathlib.Omega.{arith}
-use lib.ListN.{take, drop}
+use lib.ListN.{take}
 use lib.Seq.{take-add}
 use Rattle.sheet_definition.specs.Sheet.{World, markWords, q}
-use Rattle.sheet_definition.specs.Marks.{markAt, markOf, stateAfter}
+use Rattle.sheet_definition.specs.Marks.{markAt}
 use Rattle.sheet_definition.specs.SheetCalls.{buildOutcome, Call, saveOf, call}
 use Rattle.sheet_definition.specs.Run.{left, next, run}
 use Rattle.sheet_definition.specs.Said.{Written}

@@ -9,9 +9,10 @@ use lib.Dec.{ltb, eqb}
 use lib.ListN.{length}
 use borrow.Author.Tests.{ltb-false, leb-false, eqb-true, eqb-false, not-false}
 use Rattle.definition.specs.Luffa.{bytesAt}
-use Rattle.definition.specs.Refusal.{Refusal, WIDTH, OUT, SHEET, MARKS, pick, firstOf, conditionOf, known, widthRefusal, outRefusal}
+use Rattle.definition.specs.Refusal.{Refusal, WIDTH, OUT, SHEET, MARKS, pick, firstOf, numbersOf, conditionOf, known, widthRefusal, outRefusal}
 use Rattle.sheet_definition.specs.Sheet.{World, most, recordBytes, markWords, q}
-use Rattle.sheet_definition.specs.Refusals.{Lengths, lengthsOf, sheetRefusal, marksRefusal, placeRefusal, fullRefusal, sizeRefusal, claimRefusal, buildRefusals}
+use Rattle.sheet_definition.specs.Refusals.{Lengths, lengthsOf, sheetRefusal, marksRefusal, placeRefusal, fullRefusal, sizeRefusal, claimRefusal, buildRefusals, changeRefusals, appendRefusals, dropRefusals}
+use Rattle.sheet_definition.specs.SheetCalls.{refusalsOf}
 use Rattle.definition.proofs.Conditions.{either-false}
 use Rattle.definition.proofs.Refusals.{Numbered, fails}
 
@@ -83,3 +84,8 @@ built-numbered l = omega arith
 pub built-fits : (w : World) (out : List ℕ) → firstOf (buildRefusals (lengthsOf w out)) ≡ 0 → Fits w out
 unfolding buildRefusals
 built-fits w out e = fits w out [] (built-numbered (lengthsOf w out)) e
+
+-- the line `unfolding judging` opens the lists of all calls and what is asked of them
+unfoldable pub judging : Unit {0}
+unfolding refusalsOf changeRefusals appendRefusals dropRefusals buildRefusals widthRefusal outRefusal sheetRefusal marksRefusal placeRefusal fullRefusal sizeRefusal claimRefusal numbersOf conditionOf pick
+judging = tt

@@ -3,13 +3,13 @@
 -- Assumes nothing.
 use mathlib.Core.Path.{_≡_, refl, sym, ap, _∙_}
 use mathlib.Core.Logic.{_↔_}
-use mathlib.Core.Bool.{true, false, not}
+use mathlib.Core.Bool.{false, not}
 use mathlib.Core.List.{List}
-use Prim.Native.Nat.{ℕ, suc, _+_, _-_, _*_, _<_, _≤_}
+use Prim.Native.Nat.{ℕ, _+_, _-_, _*_, _≤_}
 use native.Mathlib.Nat.{le-refl}
 use native.Mathlib.Decide.{decLe}
 use native.Mathlib.Omega.{arith}
-use lib.ListN.{length, take, drop, replicate}
+use lib.ListN.{length, take, drop}
 use lib.Seq.{take-take, drop-drop}
 use borrow.Author.Tests.{not-false}
 use Rattle.definition.specs.declared.Width.{Width}
@@ -18,9 +18,9 @@ use Rattle.definition.specs.Width.{widthAt}
 use Rattle.definition.specs.Luffa.{luffa}
 use Rattle.definition.specs.Buffer.{overwrite, same}
 use Rattle.definition.specs.Refusal.{firstOf}
-use Rattle.sheet_definition.specs.Sheet.{World, recordBytes, groupBytes, markWords, q, checkRounds, roundsFrom}
+use Rattle.sheet_definition.specs.Sheet.{World, recordBytes, groupBytes, markWords, q, checkRounds}
 use Rattle.sheet_definition.specs.Marks.{held, markAt, stateFrom, markOf, worked, stateAfter, TrueMark, TrueMarks}
-use Rattle.sheet_definition.specs.Save.{SheetOutcome, refusedWith, doneWith, Edit, Save, checked, staleClaim, reworked, saveOutcome, saveRounds}
+use Rattle.sheet_definition.specs.Save.{SheetOutcome, refusedWith, doneWith, Save, checked, staleClaim, reworked, saveOutcome, saveRounds}
 use Rattle.sheet_definition.specs.Run.{left}
 use Rattle.sheet_definition.specs.Said.{Stale, Written, Rounds, Stays, Freed}
 use Rattle.definition.proofs.Buffer.{length-overwriteAt}
@@ -30,7 +30,7 @@ use Rattle.definition.proofs.Refusals.{of-first, given-first}
 use Rattle.sheet_definition.proofs.Sheet.{check-from-last-mark}
 use Rattle.sheet_definition.proofs.Writes.{same-refl, same-eq, marks-kept, Rewritten, rewritten, length-digest}
 use Rattle.sheet_definition.proofs.Marks.{state-of-mark, digest-from-mark, rounds-from-mark, mark-written, marks-after-work}
-use Rattle.sheet_definition.proofs.Outcomes.{isStale, turnedAway, accepted, by-answer, done-exactly, stale-exactly}
+use Rattle.sheet_definition.proofs.Outcomes.{isStale, accepted, by-answer, done-exactly, stale-exactly}
 use Rattle.sheet_definition.proofs.Refused.{Fits}
 use Rattle.sheet_definition.proofs.Fair.{Fair, Proper}
 

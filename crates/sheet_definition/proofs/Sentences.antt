@@ -1,25 +1,22 @@
 -- Document 01's sentences on append and drop, of the calls' outcomes, from true marks or false.
 -- Assumes nothing.
-use mathlib.Core.Path.{_≡_, sym, ap, _∙_}
-use mathlib.Core.List.{List, _++_, append-nil}
+use mathlib.Core.Path.{_≡_, _∙_}
+use mathlib.Core.List.{List}
 use Prim.Native.Nat.{ℕ, _+_, _-_, _*_, _/_, _%_, _<_, _≤_}
 use native.Mathlib.Decide.{decLe, ℕ-discrete}
 use native.Mathlib.Omega.{arith}
-use lib.ListN.{length, take, drop, replicate}
+use lib.ListN.{take, drop, replicate}
 use lib.Seq.{take-take}
-use Rattle.definition.specs.declared.Block.{Block}
-use Rattle.definition.specs.declared.Width.{Width}
 use Rattle.definition.specs.Round.{chain}
 use Rattle.definition.specs.Padding.{blocks}
 use Rattle.definition.specs.Width.{widthAt}
 use Rattle.sheet_definition.specs.Sheet.{World, recordBytes, groupBytes, markWords, q, r}
-use Rattle.sheet_definition.specs.Marks.{held, markAt, stateFrom, markOf, marksAfter, worked}
+use Rattle.sheet_definition.specs.Marks.{held, markAt, stateFrom, markOf}
 use Rattle.sheet_definition.specs.Save.{doneWith, reworked}
 use Rattle.sheet_definition.specs.SheetCalls.{Call, oneRecord, editOf, saveOf, call}
 use Rattle.sheet_definition.specs.SheetCalls.Kind.{Append, Drop}
 use Rattle.sheet_definition.proofs.Marks.{mark-worked}
 use Rattle.sheet_definition.proofs.Writes.{drop-take}
-use Rattle.sheet_definition.proofs.Fair.{read-written}
 use Rattle.sheet_definition.proofs.Saves.{mark-behind, save-stays, save-marks, save-freed}
 use Rattle.sheet_definition.proofs.Edits.{proper}
 use Rattle.sheet_definition.proofs.Claims.{accepted-is}

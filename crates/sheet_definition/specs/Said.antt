@@ -2,7 +2,7 @@
 -- sentence each.
 use mathlib.Core.Path.{_≡_}
 use mathlib.Core.Logic.{_↔_}
-use Prim.Native.Nat.{ℕ, suc, _+_, _-_, _*_, _<_, _≤_}
+use Prim.Native.Nat.{ℕ, suc, _+_, _*_, _<_, _≤_}
 use mathlib.Core.List.{List}
 use lib.ListN.{length, take, drop, replicate}
 use Rattle.sheet_definition.specs.declared.Answer.{Answer}
@@ -11,7 +11,7 @@ use Rattle.definition.specs.Buffer.{Every, overwrite, joined}
 use Rattle.definition.specs.Refusal.{First, STALE, firstOf}
 use Rattle.sheet_definition.specs.Sheet.{World, most, recordBytes, markWords, q, checkRounds}
 use Rattle.sheet_definition.specs.Marks.{held, markAt, markOf, stateAfter, TrueMarks}
-use Rattle.sheet_definition.specs.Save.{SheetOutcome, Edit, Save, saveRounds}
+use Rattle.sheet_definition.specs.Save.{SheetOutcome, Edit, saveRounds}
 use Rattle.sheet_definition.specs.SheetCalls.{Call, call, saveOf}
 use Rattle.sheet_definition.specs.Run.{next, applied}
 

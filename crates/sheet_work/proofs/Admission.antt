@@ -2,12 +2,11 @@
 -- Assumes nothing.
 use mathlib.Core.Path.{_≡_, refl, sym, ap, _∙_}
 use mathlib.Core.Bool.{Bool, true, false}
-use mathlib.Core.List.{List, [], _∷_}
 use Prim.Native.Nat.{ℕ, zero, suc}
 use native.Mathlib.Omega.{arith}
 use Rattle.definition.specs.Refusal.{STALE, pick, firstOf, whenDone}
 use Rattle.sheet_definition.specs.Sheet.{World}
-use Rattle.sheet_definition.specs.Save.{SheetOutcome, refusedWith, Save, checked, staleClaim, saveOutcome}
+use Rattle.sheet_definition.specs.Save.{refusedWith, Save, checked, staleClaim, saveOutcome}
 use Rattle.sheet_definition.proofs.Outcomes.{accepted, refused-is, stale-is, done-is}
 use Rattle.sheet_work.specs.declared.Admitted.{Admitted}
 use Rattle.sheet_work.specs.Admission.{admission}

@@ -1,7 +1,6 @@
 -- `luffasum_lines::print` meets its contract: at each end of the reading the text that the definition has for it.
 -- Assumes nothing.
 use mathlib.Core.Path.{refl, sym, ap, _∙_}
-use Prim.Native.Nat.{_≤_}
 use native.Mathlib.Omega.{arith}
 use borrow.Author.Needs.{needs}
 use borrow.Author.Tests.{lt-leb}

@@ -1,6 +1,5 @@
 -- `sheet_judge::one_more` meets its contract: lengths divided, and the groups of a record more.
 -- Assumes nothing.
-use native.Mathlib.Omega.{arith}
 use Prim.Native.Nat.{_+_, _/_}
 use borrow.Author.Needs.{needs}
 use Rattle.sheet_definition.specs.Sheet.{q}
