@@ -4,9 +4,6 @@ ghost use mathlib.Core.Path.{_≡_};
 ghost use Rattle.hash_definition.specs.Calls.{digestOutcome, startOutcome, feedOutcome, finishOutcome};
 use definition::Counted;
 
-// What an accepted call answers, for programs over these calls.
-pub const DONE: u32 = refusals::DONE;
-
 // The digest of a message in one call.
 pub fn digest(code: usize, message: &[u8], out: &mut [u8]) -> u32
     ensures { λ r. ⌜ record { number = r; buffer = now (out .exit) } ≡ digestOutcome code (now (message .entry)) (now (out .entry)) ⌝ }
