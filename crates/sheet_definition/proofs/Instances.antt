@@ -1,5 +1,5 @@
 -- The hypotheses of demand 3's theorems can be met: a sheet of one record is built, one planner changes it and another is turned away, the change is
--- taken back, and the record is dropped with the old digest.
+-- taken back, and the record is dropped with the old digest; a fourth record is appended to three and dropped again.
 -- Assumes nothing.
 use mathlib.Core.Path.{_≡_, refl, sym, ap, _∙_}
 use mathlib.Core.Bool.{false, false≢true}
@@ -12,7 +12,7 @@ use Rattle.definition.specs.Buffer.{same, joined}
 use Rattle.definition.specs.Refusal.{firstOf}
 use Rattle.sheet_definition.specs.Sheet.{World}
 use Rattle.sheet_definition.specs.SheetCalls.{buildOutcome, Call, saveOf, call, changing}
-use Rattle.sheet_definition.specs.SheetCalls.Kind.{Drop}
+use Rattle.sheet_definition.specs.SheetCalls.Kind.{Append, Drop}
 use Rattle.sheet_definition.specs.Run.{left, next, run, listAfter, applied, cut}
 use Rattle.sheet_definition.specs.Said.{Stale, Stands, Written, Restored}
 use Rattle.sheet_definition.proofs.Computed.{everything}
@@ -138,3 +138,48 @@ same-record = change-same opened 0 (luffa 2 ones) blank (stands .marks-true) ref
 -- the marks after such a run are those of a build: run-as-built
 pub as-built : Written (run opened (one ∷ back ∷ last ∷ [])) 0
 as-built = run-as-built 2 built-sheet 1 (replicate 40 0) blank built (one ∷ back ∷ last ∷ [])
+
+-- a fourth record appended to three, which fills a group, and dropped again: append-mark, append-others, drop-bytes, drop-mark
+abbrev pub zeros : List ℕ
+zeros = replicate 40 0
+
+abbrev pub three : World
+three = left 2 (buildOutcome 2 (replicate 160 0) 3 (replicate 80 0) blank)
+
+three-built : buildOutcome 2 (replicate 160 0) 3 (replicate 80 0) blank .answer .number ≡ 0
+unfolding everything
+three-built = refl
+
+three-stands : Stands three (zeros ∷ zeros ∷ zeros ∷ [])
+unfolding cut
+three-stands = stands-built 2 (replicate 160 0) 3 (replicate 80 0) blank three-built
+
+abbrev pub fourth : Call
+fourth = record { kind = Append ones; claim = luffa 2 (joined (zeros ∷ zeros ∷ zeros ∷ [])); out = blank }
+
+valid-fourth : firstOf (saveOf three fourth .refusals) ≡ 0
+unfolding everything
+valid-fourth = refl
+
+pub appended : call three fourth .answer .number ≡ 0
+unfolding left
+appended = after three fourth (zeros ∷ zeros ∷ zeros ∷ []) three-stands .accepted .1 (valid-fourth, refl)
+
+four-stands : Stands (next three fourth) (zeros ∷ zeros ∷ zeros ∷ ones ∷ [])
+unfolding applied listAfter
+four-stands = rw appended at (stands-next three fourth (zeros ∷ zeros ∷ zeros ∷ []) three-stands)
+
+abbrev pub dropping : Call
+dropping = record { kind = Drop; claim = luffa 2 (joined (zeros ∷ zeros ∷ zeros ∷ ones ∷ [])); out = blank }
+
+room-dropping : firstOf (saveOf (left 2 (accepted three (saveOf three fourth))) dropping .refusals) ≡ 0
+unfolding everything
+room-dropping = refl
+
+valid-dropping : firstOf (saveOf (next three fourth) dropping .refusals) ≡ 0
+unfolding next left
+valid-dropping = rw (accepted-is three fourth appended .1) room-dropping
+
+pub fourth-dropped : call (next three fourth) dropping .answer .number ≡ 0
+unfolding next left
+fourth-dropped = after (next three fourth) dropping (zeros ∷ zeros ∷ zeros ∷ ones ∷ []) four-stands .accepted .1 (valid-dropping, refl)
