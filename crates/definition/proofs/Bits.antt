@@ -35,7 +35,7 @@ complement : (n a : ℕ) → a < 2 ^ n → 2 ^ n - 1 - a ≡ bitXor a (2 ^ n - 1
 complement n a h = omega (arith, xor-add-and a (2 ^ n - 1), and-mask a n, mod-eq-of-lt h)
 
 -- a number below 2^n from its bits
-fromBits-bit : (n a : ℕ) → fromBits n (λ l. bit l a) ≡ a % 2 ^ n
+pub fromBits-bit : (n a : ℕ) → fromBits n (λ l. bit l a) ≡ a % 2 ^ n
 unfolding fromBits bit
 fromBits-bit zero a = sym (mod-one a)
 fromBits-bit (suc n) a = rw (fromBits-bit n a) (sym (mod-pow-add a 1 n) ∙ ap (λ (k : ℕ). a % 2 ^ k) (one-add n))
@@ -95,14 +95,14 @@ bit-mod n l a h =
     let e : n - l - 1 + 1 + l ≡ n = omega arith in
     rw (rw e at (field a (n - l - 1 + 1) l)) (mod-mod-pow (a / 2 ^ l) (n - l - 1) 1)
 
-bit-shr : (k l a : ℕ) → bit l (a / 2 ^ k) ≡ bit (k + l) a
+pub bit-shr : (k l a : ℕ) → bit l (a / 2 ^ k) ≡ bit (k + l) a
 unfolding bit
 bit-shr k l a = rw shr-shr
 
 pub bit-shl : (k l a : ℕ) → bit (k + l) (a * 2 ^ k) ≡ bit l a
 bit-shl k l a = sym (bit-shr k l (a * 2 ^ k)) ∙ ap (bit l) (shl-shr a k)
 
-bit-below : (k l a : ℕ) → l < k → bit l (a * 2 ^ k) ≡ 0
+pub bit-below : (k l a : ℕ) → l < k → bit l (a * 2 ^ k) ≡ 0
 bit-below k l a h = sym (bit-mod k l (a * 2 ^ k) h) ∙ rw (mul-mod-left a (2 ^ k)) (bit-zero l)
 
 pub bit-above : (k l a : ℕ) → a < 2 ^ k → bit (k + l) a ≡ 0

@@ -11,6 +11,7 @@ pub mod Injection
 pub mod Constant
 pub mod Chain
 pub mod Padding
+pub mod BitStrings
 pub mod Buffer
 pub mod Codes
 pub mod Refusals

@@ -1,13 +1,13 @@
--- The four digests: Table 3 of the source, under document 01's codes 1 = 224 bits, 2 = 256, 3 = 384, 4 = 512.
--- The table has an entry first that stands for no code.
-use Prim.Native.Nat.{ℕ, _*_}
+-- The four digests: Tables 1 and 3 of the source, under document 01's codes 1 = 224 bits, 2 = 256, 3 = 384, 4 = 512.
+-- A table has an entry first that stands for no code.
+use Prim.Native.Nat.{ℕ, _*_, _^_}
 use mathlib.Core.List.{List, [], _∷_}
 use lib.ListN.{getD}
 use Rattle.definition.specs.declared.Block.{Block}
 use Rattle.definition.specs.Word.{bytesOfAll}
 use Rattle.definition.specs.Width.{widthAt}
 use Rattle.definition.specs.Round.{chain}
-use Rattle.definition.specs.Padding.{closing, padded, blocks}
+use Rattle.definition.specs.Padding.{paddedBits, bytesIn, bitsOf, blocks}
 use Rattle.definition.specs.Start.{start}
 use Rattle.definition.specs.Final.{final}
 
@@ -18,11 +18,25 @@ wordsAt code = getD (0 ∷ 7 ∷ 8 ∷ 12 ∷ 16 ∷ []) code 0
 unfoldable pub bytesAt : ℕ → ℕ
 bytesAt code = 4 * wordsAt code
 
--- the digest, as bytes, of a message whose last bytes are x, from the state after the blocks before them: x is padded, and the final stage follows
-unfoldable pub digestAfter : (code : ℕ) → List Block → List ℕ → List ℕ
-digestAfter code h x =
-    bytesOfAll (final (widthAt code) (wordsAt code) (chain (widthAt code) h (blocks (padded closing x))))
+-- Table 1: a message has fewer bits than this at a code
+unfoldable pub limitAt : ℕ → ℕ
+limitAt code = getD (2 ^ 64 ∷ 2 ^ 64 ∷ 2 ^ 64 ∷ 2 ^ 128 ∷ 2 ^ 128 ∷ []) code (2 ^ 64)
 
--- Luffa of a message of whole bytes
+-- the digest, as bytes, from the state after all blocks of a message
+unfoldable pub digestOf : (code : ℕ) → List Block → List ℕ
+digestOf code h = bytesOfAll (final (widthAt code) (wordsAt code) h)
+
+-- of a message whose last bits are x, from the state after the blocks before them: x is padded, and the final stage follows
+unfoldable pub digestOfBits : (code : ℕ) → List Block → (x : List ℕ) → List ℕ
+digestOfBits code h x = digestOf code (chain (widthAt code) h (blocks (bytesIn (paddedBits x))))
+
+-- Luffa of a bit string
+unfoldable pub luffaOfBits : (code : ℕ) → List ℕ → List ℕ
+luffaOfBits code m = digestOfBits code (start (widthAt code)) m
+
+-- and of a message of whole bytes
+unfoldable pub digestAfter : (code : ℕ) → List Block → (x : List ℕ) → List ℕ
+digestAfter code h x = digestOfBits code h (bitsOf x)
+
 unfoldable pub luffa : (code : ℕ) → List ℕ → List ℕ
-luffa code m = digestAfter code (start (widthAt code)) m
+luffa code m = luffaOfBits code (bitsOf m)

@@ -25,7 +25,7 @@ use Rattle.definition.specs.Start.{start}
 use Rattle.definition.specs.Final.{outputs, finalRounds, final}
 use Rattle.definition.specs.State.{five, blocksIn, stateOf}
 use Rattle.definition.specs.Buffer.{joined}
-use Rattle.definition.specs.Luffa.{wordsAt, digestAfter, luffa}
+use Rattle.definition.specs.Luffa.{wordsAt, digestOf, digestOfBits, luffaOfBits, luffa}
 use Rattle.definition.specs.Refusal.{known}
 use Rattle.hash_definition.specs.Said.{feedEach}
 use Rattle.hash_definition.specs.Record.{limit, withZeros, allZero, pendingCount, pendingBytes, wellKept, started, fed, finished}
@@ -34,6 +34,7 @@ use Rattle.definition.proofs.Every.{every-take}
 use Rattle.definition.proofs.Bounds.{Words, AllWords, chain-words, start-words, five-words, word-in}
 use Rattle.definition.proofs.Padding.{blockBy, by-words, blocks-none, rest-short, length-rest, blocks-feed, rest-feed}
 use Rattle.definition.proofs.Chain.{blocks-of-start, blocks-of-chain, length-blocksIn, length-start, chain-append}
+use Rattle.definition.proofs.BitStrings.{digest-bytes, luffa-bytes}
 
 -- a list of zeros
 zeros-replicate : (n : ℕ) → allZero (replicate n 0) ≡ true
@@ -184,11 +185,13 @@ keptOf code x = fed (started code) x
 
 -- finishing gives the digest of the message
 pub kept-finished : (code : ℕ) (x : List ℕ) → finished (keptOf code x) ≡ luffa code x
-unfolding finished luffa digestAfter fed started pendingBytes pendingCount padded padding
+unfolding finished fed started pendingBytes pendingCount padded padding
 kept-finished code x =
     let w : Width = widthAt code in
     let n : length (rest x) % 32 ≡ length x % 32 = omega (arith, length-rest x) in
     rw (
+      digest-bytes,
+      luffa-bytes code x,
       pending-fed (started code) x refl,
       n,
       blocks-of-start w,
@@ -199,7 +202,7 @@ kept-finished code x =
 
 -- the digest of 224 bits is the first 28 bytes of that of 256 bits
 pub first28 : (m : List ℕ) → luffa 1 m ≡ take 28 (luffa 2 m)
-unfolding luffa digestAfter widthAt wordsAt final finalRounds outputs wordsOf bytesOfAll bytesOf
+unfolding luffa luffaOfBits digestOfBits digestOf widthAt wordsAt final finalRounds outputs wordsOf bytesOfAll bytesOf
 first28 m = refl
 
 -- a record to begin with is well kept, and has words

@@ -9,7 +9,7 @@ use borrow.Author.Tests.{eq-eqb, ne-eqb, le-leb, not-false}
 use lib.Dec.{leb}
 use lib.ListN.{length, take, length-take, length-append}
 use lib.Seq.{take-append-le}
-use Rattle.definition.specs.Luffa.{wordsAt, bytesAt, digestAfter}
+use Rattle.definition.specs.Luffa.{wordsAt, bytesAt, digestOf, digestOfBits, digestAfter}
 use Rattle.definition.specs.Buffer.{overwriteAt, overwrite}
 use Rattle.definition.specs.Refusal.{RECORD, LONG, pick, firstOf, conditionOf, whenDone}
 use Rattle.definition.proofs.Refusals.{fails, not-done}
@@ -30,7 +30,7 @@ use Rattle.luffasum_lines.proofs.Lines.{length-line}
 
 -- a digest has its code's bytes
 pub length-finished : (k : Kept) → length (finished k) ≡ bytesAt (k .code)
-unfolding finished digestAfter bytesAt
+unfolding finished digestAfter digestOfBits digestOf bytesAt
 length-finished k = length-bytes _ ∙ ap (λ (n : ℕ). 4 * n) (length-final _ (wordsAt (k .code)) _)
 
 -- a record judged by refusal 3 alone

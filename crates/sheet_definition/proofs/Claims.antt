@@ -7,7 +7,7 @@ use native.Mathlib.Omega.{arith}
 use lib.ListN.{length, take, drop, length-drop}
 use lib.Seq.{length-take-le}
 use borrow.Author.Tests.{eq-eqb, lt-leb}
-use Rattle.definition.specs.Luffa.{bytesAt, digestAfter, luffa}
+use Rattle.definition.specs.Luffa.{bytesAt, digestOf, digestOfBits, luffaOfBits, luffa}
 use Rattle.definition.specs.Buffer.{joined}
 use Rattle.definition.specs.Refusal.{pick, firstOf}
 use Rattle.sheet_definition.specs.Sheet.{World, recordBytes}
@@ -56,7 +56,7 @@ restores w n sheet place claim out t m l f b e =
 
 -- a digest has the length that its code names
 length-luffa : (code : ℕ) (m : List ℕ) → length (luffa code m) ≡ bytesAt code
-unfolding luffa digestAfter bytesAt
+unfolding luffa luffaOfBits digestOfBits digestOf bytesAt
 length-luffa code m = simp (length-bytes, length-final)
 
 -- the arguments of a change are valid where a build's are, at a place of the sheet, with a record and a claim of the right length

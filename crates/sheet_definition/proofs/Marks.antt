@@ -19,11 +19,12 @@ use Rattle.definition.specs.Width.{blockCount, widthAt}
 use Rattle.definition.specs.Start.{start}
 use Rattle.definition.specs.State.{five, blocksIn, stateOf}
 use Rattle.definition.specs.Buffer.{overwriteAt}
-use Rattle.definition.specs.Luffa.{digestAfter, luffa}
+use Rattle.definition.specs.Luffa.{luffa}
 use Rattle.sheet_definition.specs.Sheet.{recordBytes, groupBytes, markWords, q, N, F, roundsFrom}
 use Rattle.sheet_definition.specs.Marks.{held, markAt, blockFrom, stateFrom, markOf, marksAfter, roundsAfter, worked, stateAfter, TrueMark, TrueMarks}
 use Rattle.definition.proofs.Chain.{chain-append, blocks-of-state, length-chain, length-start}
 use Rattle.definition.proofs.Padding.{blocks-append, length-padding}
+use Rattle.definition.proofs.BitStrings.{digest-bytes, luffa-bytes}
 use Rattle.sheet_definition.proofs.Writes.{marks-kept, rewritten}
 
 -- padding after whole blocks
@@ -43,7 +44,7 @@ chain-parts w h k n x l =
 -- the digest worked from a true mark is Luffa of the whole sheet
 pub digest-from-mark : (code n m : ℕ) (sheet marks : List ℕ) → TrueMark code sheet marks m → m ≤ q n → recordBytes * n ≤ length sheet
     → worked code n sheet marks m .digest ≡ luffa code (held n sheet)
-unfolding worked digestAfter luffa TrueMark stateAfter held q
+unfolding worked TrueMark stateAfter held q
 digest-from-mark code n m sheet marks t h l =
     let y : List ℕ = take (groupBytes * m) sheet in
     let x : List ℕ = drop (groupBytes * m) (take (recordBytes * n) sheet) in
@@ -52,7 +53,7 @@ digest-from-mark code n m sheet marks t h l =
     rw (take-take (groupBytes * m) (recordBytes * n) sheet (omega arith)) at (sym (take-append-drop (groupBytes * m) (take (recordBytes * n) sheet))) in
     let b : blocks (padded closing (take (recordBytes * n) sheet)) ≡ blocks y ++ blocks (padded closing x) =
     ap (λ (z : List ℕ). blocks (padded closing z)) s ∙ rw (padded-append (5 * m) closing y x e, blocks-append (5 * m) y (padded closing x) e) in
-    rw (t, b, chain-append)
+    rw (digest-bytes code _ x, luffa-bytes code (take (recordBytes * n) sheet), t, b, chain-append)
 
 -- the number of blocks of a padded string
 length-blocksTo : (n : ℕ) (x : List ℕ) → length (blocksTo n x) ≡ n

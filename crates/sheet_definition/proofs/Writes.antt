@@ -16,7 +16,7 @@ use Rattle.definition.specs.State.{five}
 use Rattle.definition.specs.Round.{chain}
 use Rattle.definition.specs.Padding.{blocks}
 use Rattle.definition.specs.Width.{widthAt}
-use Rattle.definition.specs.Luffa.{bytesAt, digestAfter}
+use Rattle.definition.specs.Luffa.{bytesAt, digestOf, digestOfBits, digestAfter}
 use Rattle.definition.specs.Buffer.{overwriteAt, same}
 use Rattle.sheet_definition.specs.Sheet.{groupBytes, markWords, q}
 use Rattle.sheet_definition.specs.Marks.{held, markAt, stateFrom, markOf, marksAfter, worked}
@@ -82,5 +82,5 @@ rewritten code n m sheet marks h l =
 
 -- a digest has the length that its code names, whatever the marks
 pub length-digest : (code n m : ℕ) (sheet marks : List ℕ) → length (worked code n sheet marks m .digest) ≡ bytesAt code
-unfolding worked digestAfter bytesAt
+unfolding worked digestAfter digestOfBits digestOf bytesAt
 length-digest code n m sheet marks = simp (length-bytes, length-final)

@@ -19,7 +19,7 @@ use Rattle.definition.specs.Width.{blockCount, widthAt}
 use Rattle.definition.specs.State.{five, blocksIn, stateOf}
 use Rattle.definition.specs.Final.{final, finalRounds}
 use Rattle.definition.specs.Counted.{countedChain}
-use Rattle.definition.specs.Luffa.{wordsAt, bytesAt, digestAfter}
+use Rattle.definition.specs.Luffa.{wordsAt, bytesAt, digestOf}
 use Rattle.definition.specs.Buffer.{overwriteAt, overwrite}
 use Rattle.sheet_definition.specs.Sheet.{most, recordBytes, groupBytes, markWords, q}
 use Rattle.sheet_definition.specs.Marks.{held, markAt, stateFrom, markOf, marksAfter, roundsAfter, worked}
@@ -27,6 +27,7 @@ use Rattle.definition.proofs.Buffer.{overwriteAt-more, overwriteAt-none}
 use Rattle.definition.proofs.Chain.{blocks-of-state, counted-append, counted-state, counted-blocks, counted-rounds}
 use Rattle.definition.proofs.Codes.{words-le}
 use Rattle.definition.proofs.Padding.{blocks-append}
+use Rattle.definition.proofs.BitStrings.{digest-bytes}
 use Rattle.sheet_definition.proofs.Writes.{drop-take}
 use Rattle.sheet_definition.proofs.Marks.{padded-append, padded-blocks, length-mark}
 use Rattle.squeeze.proofs.Digests.{all-words, squeezed-out}
@@ -151,8 +152,8 @@ module _ (code n m before : ℕ) (sheet marks out : List ℕ) (s : State) (k : �
   words = min (wordsAt code) (length out / 4)
 
   digest-worked : bytesOfAll (final w words (blocksIn w (d .state))) ≡ worked code n sheet marks m .digest
-  unfolding worked digestAfter
-  digest-worked = rw ended (ap bytesOfAll (squeezed-out code fromMark ms out out-room ∙ rw found))
+  unfolding worked digestOf
+  digest-worked = rw (ended, digest-bytes code _ rest) (ap bytesOfAll (squeezed-out code fromMark ms out out-room ∙ rw found))
 
   -- the count is the number of rounds that the definition applies
   rounds-worked : n ≤ most → before < 2 ^ 32

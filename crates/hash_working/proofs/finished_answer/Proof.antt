@@ -14,13 +14,14 @@ use Rattle.definition.specs.Word.{bytesOfAll}
 use Rattle.definition.specs.Buffer.{overwrite}
 use Rattle.definition.specs.Final.{final}
 use Rattle.definition.specs.State.{blocksIn}
-use Rattle.definition.specs.Luffa.{bytesAt, digestAfter}
+use Rattle.definition.specs.Luffa.{bytesAt, digestOf}
 use Rattle.definition.specs.Refusal.{Refusal, OUT, pick, firstOf, conditionOf, outRefusal}
 use Rattle.hash_definition.specs.Record.{pendingCount, pendingBytes, finished}
 use Rattle.hash_definition.specs.Lent.{keptRefusal, lentFinishRefusals, lentFinishOutcome}
 use Rattle.hash_definition.specs.Said.{done}
 use Rattle.definition.proofs.Codes.{words-le}
 use Rattle.definition.proofs.Refusals.{in-turn, fails}
+use Rattle.definition.proofs.BitStrings.{digest-bytes}
 use Rattle.hash_definition.proofs.Refused.{refused, accepted}
 use Rattle.squeeze.proofs.Digests.{squeezed-out}
 use Rattle.hash_working.proofs.finished_answer.Statement.{statement}
@@ -63,7 +64,7 @@ slice-aggregate-absorb-last : tie.Need-slice-aggregate-absorb-last
 slice-aggregate-absorb-last c = sym (length-take-le _ _ (in-front (from (c .before))))
 
 returns-2 : tie.Need-returns-2
-unfolding lentFinishOutcome finished digestAfter pendingBytes pendingCount
+unfolding lentFinishOutcome finished digestOf pendingBytes pendingCount
 returns-2 c =
     let q = c .before .before in
     let l = q .before .before in
@@ -77,7 +78,8 @@ returns-2 c =
     q .squeeze .ensures .1 in
     let d =
     (rw (l .absorb-last .ensures, n .words .ensures, w .width .ensures) at z)
-    ∙ ap (λ (ws : List ℕ). overwrite (bytesOfAll ws) out) (squeezed-out (a .k .code) _ _ out (unfold bytesAt in room (w .before))) in
+    ∙ ap (λ (ws : List ℕ). overwrite (bytesOfAll ws) out) (squeezed-out (a .k .code) _ _ out (unfold bytesAt in room (w .before)))
+    ∙ ap (λ (x : List ℕ). overwrite x out) (sym (digest-bytes (a .k .code) _ _)) in
     ap done d ∙ accepted _ (judged f) _ _ (w .before .if1 .left)
 
 pub finished-answer-spec : {M : Type 1} → statement M
