@@ -1,7 +1,7 @@
 /*
  * luffa.h: Luffa digests (Luffa specification 2.0.1) of 224, 256, 384 and 512 bits, in one call or
- * piece by piece, a sheet of records that is saved under its digest, and a check of what its records
- * mean.
+ * piece by piece, of messages that may stop inside a byte, a sheet of records that is saved under its
+ * digest, and a check of what its records mean.
  *
  * Every call answers a number: LUFFA_DONE, or the first refusal that holds, in the order listed at
  * the call. A refused call has altered nothing, so look at the answer before you use a buffer. The
@@ -35,7 +35,8 @@ extern "C" {
 #define LUFFA_384_BYTES 48
 #define LUFFA_512_BYTES 64
 
-/* The most bytes that a message may have, at every code: 2^61 - 1. */
+/* A message has fewer than 2^64 bits at codes 1 and 2, and fewer than 2^128 at codes 3 and 4. This is
+   the most whole bytes at codes 1 and 2, 2^61 - 1; seven bits more are still a message. */
 #define LUFFA_LIMIT UINT64_C(0x1fffffffffffffff)
 
 /* Answers. */
@@ -43,7 +44,7 @@ extern "C" {
 #define LUFFA_WIDTH 1  /* the code isn't 1 to 4 */
 #define LUFFA_OUT 2    /* the output buffer is shorter than the digest */
 #define LUFFA_RECORD 3 /* the hash record isn't well formed, or has another length */
-#define LUFFA_LONG 4   /* the message would pass LUFFA_LIMIT */
+#define LUFFA_LONG 4   /* the message would have too many bits for the code */
 /* 5 to 11 are given by the sheet calls, and 5 by the calls on what a sheet means too. */
 #define LUFFA_SHEET 5  /* too many records, or the buffer is too short for them */
 #define LUFFA_MARKS 6  /* too few words for the marks */
@@ -55,31 +56,49 @@ extern "C" {
 /* 13 and 25 are given by luffa_plan_brine. */
 #define LUFFA_BATCH 13 /* too many sheets */
 #define LUFFA_LIST 25  /* a list has fewer places than the batch has records */
+/* 17 is given by the calls that take odd bits, or a piece for a record. */
+#define LUFFA_ODD 17   /* no message has these odd bits, or it has ended with odd bits already */
 
 /*
  * The digest of a whole message, in the first bytes of out. The bytes after it stay as they were.
  *   1 LUFFA_WIDTH   code isn't 1 to 4
  *   2 LUFFA_OUT     out_len is less than the digest's bytes at this code
- *   4 LUFFA_LONG    message_len is over LUFFA_LIMIT
+ *   4 LUFFA_LONG    8 * message_len bits are 2^64 or more and code is 1 or 2
  */
 uint32_t luffa_digest(size_t code, const uint8_t *message, size_t message_len, uint8_t *out, size_t out_len);
 
 /*
+ * The same of a message that stops inside a byte. With odd from 1 to 7 the message's last byte is the
+ * odd byte: the message is the bits of the bytes before it, the highest of each first, and then the
+ * `odd` highest bits of this one. Its other bits are ignored. With odd 0 it is luffa_digest.
+ *   1 LUFFA_WIDTH   code isn't 1 to 4
+ *   2 LUFFA_OUT     out_len is less than the digest's bytes at this code
+ *  17 LUFFA_ODD     odd is over 7, or it isn't 0 and message_len is
+ *   4 LUFFA_LONG    the bits are 2^64 or more and code is 1 or 2
+ */
+uint32_t luffa_digest_bits(size_t code, const uint8_t *message, size_t message_len, size_t odd, uint8_t *out,
+                           size_t out_len);
+
+/*
  * A message in pieces: start a record, feed it every piece in turn, finish it.
  *
- * The record is 208 bytes that mean the same on every machine. It can be copied, stored and fed on
+ * The record is 216 bytes that mean the same on every machine. It can be copied, stored and fed on
  * later, by another program too. What was fed can be partly read from it, so keep it as safe as
  * the message.
  *   byte 0             the code
- *   bytes 1 to 7       zero
+ *   byte 1             the odd bits, 0 to 7: the message's bits after its last whole byte
+ *   bytes 2 to 7       zero
  *   bytes 8 to 167     40 words of state, each high byte first. Codes 1 and 2 use the first 24,
  *                      code 3 the first 32 and code 4 all; the others are zero
- *   bytes 168 to 199   the last (count mod 32) bytes fed, then zeros
- *   bytes 200 to 207   count: the bytes fed so far, high byte first
- * It is well formed if it has this length, a code of 1 to 4, these zeros and a count of at most
- * LUFFA_LIMIT. Feed and finish take every well-formed record; who made it, they can't know.
+ *   bytes 168 to 199   the last (count mod 32) whole bytes fed; where there are odd bits, the byte
+ *                      whose highest bits they are, its other bits zero; then zeros
+ *   bytes 200 to 215   count: the whole bytes fed so far, high byte first
+ * It is well formed if it has this length, a code of 1 to 4, at most 7 odd bits, these zeros, and if
+ * 8 * count and the odd bits together are fewer bits than 2^64 at codes 1 and 2, than 2^128 at codes
+ * 3 and 4. Feed and finish take every well-formed record; who made it, they can't know. The records
+ * of 208 bytes that version 1 wrote are refused.
  */
-#define LUFFA_RECORD_BYTES 208
+#define LUFFA_RECORD_BYTES 216
 
 /*
  * Makes the record of the empty message.
@@ -91,13 +110,23 @@ uint32_t luffa_start(size_t code, uint8_t *record, size_t record_len);
 /*
  * Adds a piece to the message. An empty piece changes nothing.
  *   3 LUFFA_RECORD  the record isn't well formed
- *   4 LUFFA_LONG    the bytes fed so far and piece_len together are over LUFFA_LIMIT
+ *  17 LUFFA_ODD     the record has odd bits: its message has ended, for an empty piece too
+ *   4 LUFFA_LONG    the message would have too many bits for the record's code
  */
 uint32_t luffa_feed(uint8_t *record, size_t record_len, const uint8_t *piece, size_t piece_len);
 
 /*
- * The digest of the bytes fed so far, in the first bytes of out. The bytes after it stay as they
- * were, and so does the record: it can be finished again or fed on.
+ * The same of a piece that may stop inside a byte, as in luffa_digest_bits: with odd from 1 to 7 the
+ * piece's last byte is the odd byte, and the message ends there. With odd 0 it is luffa_feed.
+ *   3 LUFFA_RECORD  the record isn't well formed
+ *  17 LUFFA_ODD     the record has odd bits; or odd is over 7, or it isn't 0 and piece_len is
+ *   4 LUFFA_LONG    the message would have too many bits for the record's code
+ */
+uint32_t luffa_feed_bits(uint8_t *record, size_t record_len, const uint8_t *piece, size_t piece_len, size_t odd);
+
+/*
+ * The digest of what was fed so far, in the first bytes of out. The bytes after it stay as they
+ * were, and so does the record: it can be finished again or, without odd bits, fed on.
  *   3 LUFFA_RECORD  the record isn't well formed; its code is judged here, never as 1
  *   2 LUFFA_OUT     out_len is less than the digest's bytes at the record's code
  */
@@ -106,15 +135,15 @@ uint32_t luffa_finish(const uint8_t *record, size_t record_len, uint8_t *out, si
 /*
  * The same within one program, over a struct that the caller lends: each feed alters it where it
  * stands, and no bytes are read or written as a record. Its fields are the record's, as the machine
- * holds them, and the same is well formed. To store it or to hand it to another program, use a
- * record. The pointer to it is valid and aligned, never null; luffa_hash_start reads nothing from it
- * that matters.
+ * holds them, its count in two words, and the same is well formed. To store it or to hand it to
+ * another program, use a record. The pointer to it is valid and aligned, never null;
+ * luffa_hash_start reads nothing from it that matters.
  */
 struct luffa_hash {
-    size_t code;
+    size_t code, odd;
     uint32_t state[40];
     uint8_t pending[32];
-    uint64_t count;
+    uint64_t count_high, count_low;
 };
 
 /*
@@ -126,13 +155,22 @@ uint32_t luffa_hash_start(size_t code, struct luffa_hash *hash);
 /*
  * Adds a piece to the message. An empty piece changes nothing.
  *   3 LUFFA_RECORD  the struct isn't well formed
- *   4 LUFFA_LONG    the bytes fed so far and piece_len together are over LUFFA_LIMIT
+ *  17 LUFFA_ODD     the struct has odd bits: its message has ended, for an empty piece too
+ *   4 LUFFA_LONG    the message would have too many bits for the struct's code
  */
 uint32_t luffa_hash_feed(struct luffa_hash *hash, const uint8_t *piece, size_t piece_len);
 
 /*
- * The digest of the bytes fed so far, in the first bytes of out. The bytes after it stay as they
- * were, and so does the struct: it can be finished again or fed on.
+ * The same of a piece that may stop inside a byte, as luffa_feed_bits takes it.
+ *   3 LUFFA_RECORD  the struct isn't well formed
+ *  17 LUFFA_ODD     the struct has odd bits; or odd is over 7, or it isn't 0 and piece_len is
+ *   4 LUFFA_LONG    the message would have too many bits for the struct's code
+ */
+uint32_t luffa_hash_feed_bits(struct luffa_hash *hash, const uint8_t *piece, size_t piece_len, size_t odd);
+
+/*
+ * The digest of what was fed so far, in the first bytes of out. The bytes after it stay as they
+ * were, and so does the struct: it can be finished again or, without odd bits, fed on.
  *   3 LUFFA_RECORD  the struct isn't well formed; its code is judged here, never as 1
  *   2 LUFFA_OUT     out_len is less than the digest's bytes at the struct's code
  */

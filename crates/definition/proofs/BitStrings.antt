@@ -2,13 +2,13 @@
 -- bit and zeros. So the digest of a bit string is that of its whole bytes under its closing byte.
 -- Assumes nothing.
 use mathlib.Core.Path.{_≡_, refl, sym, ap, ap₂, _∙_}
-use mathlib.Core.List.{List, [], _∷_, _++_, append-assoc, append-nil}
+use mathlib.Core.List.{List, [], _∷_, _++_, append-assoc}
 use Prim.Native.Nat.{ℕ, zero, suc, _+_, _-_, _*_, _/_, _%_, _^_, _<_, _≤_}
-use native.Mathlib.Nat.{div-add-mod', add-zero, pow-suc, le-refl}
+use native.Mathlib.Nat.{div-add-mod', add-zero, pow-suc, le-refl, zero-lt-suc}
 use native.Mathlib.Omega.{arith}
 use lib.Pow.{shr-shr, high, low, pow-pos}
-use lib.ListN.{take-append-drop, length, getD, take, drop, replicate, length-append, length-replicate, length-drop, replicate-append-replicate}
-use lib.Seq.{take-all, take-append-le, take-append-add, drop-append-add, drop-cons, length-take-le}
+use lib.ListN.{take-append-drop, length, getD, take, drop, replicate, length-append, replicate-append-replicate}
+use lib.Seq.{take-all, take-append-le, take-append-add, drop-cons, length-take-le}
 use Rattle.definition.specs.declared.Block.{Block}
 use Rattle.definition.specs.Word.{bit, fromBits}
 use Rattle.definition.specs.Round.{chain}
@@ -16,7 +16,7 @@ use Rattle.definition.specs.Width.{widthAt}
 use Rattle.definition.specs.Padding.{paddedBits, byteOf, bytesTo, bytesIn, lowBits, bitsOfByte, bitsOf, wholeBytes, bitsIn, highBits, closingByte, closing, padding, padded, blocks}
 use Rattle.definition.specs.Start.{start}
 use Rattle.definition.specs.Luffa.{digestOf, digestOfBits, luffaOfBits, digestAfter, luffa}
-use Rattle.definition.proofs.Bits.{fromBits-bit, bit-shr, bit-shl, bit-below}
+use Rattle.definition.proofs.Bits.{fromBits-bit, bit-shl, bit-below}
 
 -- bytes one after the other, and how many bits they have
 pub bits-append : (x y : List ℕ) → bitsOf (x ++ y) ≡ bitsOf x ++ bitsOf y
@@ -30,7 +30,7 @@ length-bits [] = refl
 length-bits (a ∷ x) = omega (arith, length-bits x)
 
 -- the bits of a byte are read as that byte
-byte-bits : (a : ℕ) (x : List ℕ) → byteOf (bitsOfByte a ++ x) ≡ a
+pub byte-bits : (a : ℕ) (x : List ℕ) → byteOf (bitsOfByte a ++ x) ≡ a
 unfolding byteOf bitsOfByte lowBits
 byte-bits a x = omega (arith, seven, div-add-mod' a (2 ^ 7))
   where
@@ -165,3 +165,14 @@ digest-bytes code h x =
 pub luffa-bytes : (code : ℕ) (m : List ℕ) → luffa code m ≡ digestOf code (chain (widthAt code) (start (widthAt code)) (blocks (padded closing m)))
 unfolding luffa luffaOfBits digestAfter
 luffa-bytes code m = digest-bytes code (start (widthAt code)) m
+
+-- no odd bits: whole bytes
+pub luffa-whole : (code : ℕ) (m : List ℕ) → luffaOfBits code (bitsIn m 0) ≡ luffa code m
+unfolding luffa bitsIn wholeBytes
+luffa-whole code m = ap (luffaOfBits code) (bits-whole m)
+
+-- the bits of a message that ends with odd bits, where it has a byte for them
+pub length-bits-in : (m : List ℕ) (odd : ℕ) → odd ≤ 7 → (0 < odd → 0 < length m) → length (bitsIn m odd) ≡ 8 * wholeBytes odd (length m) + odd
+unfolding bitsIn wholeBytes
+length-bits-in m zero h e = length-take-le (8 * length m + 0) (bitsOf m) (omega (arith, length-bits m))
+length-bits-in m (suc o) h e = length-take-le (8 * (length m - 1) + suc o) (bitsOf m) (omega (arith, length-bits m, e (zero-lt-suc o)))

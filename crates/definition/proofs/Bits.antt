@@ -95,7 +95,7 @@ bit-mod n l a h =
     let e : n - l - 1 + 1 + l ≡ n = omega arith in
     rw (rw e at (field a (n - l - 1 + 1) l)) (mod-mod-pow (a / 2 ^ l) (n - l - 1) 1)
 
-pub bit-shr : (k l a : ℕ) → bit l (a / 2 ^ k) ≡ bit (k + l) a
+bit-shr : (k l a : ℕ) → bit l (a / 2 ^ k) ≡ bit (k + l) a
 unfolding bit
 bit-shr k l a = rw shr-shr
 

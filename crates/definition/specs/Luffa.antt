@@ -20,7 +20,7 @@ bytesAt code = 4 * wordsAt code
 
 -- Table 1: a message has fewer bits than this at a code
 unfoldable pub limitAt : ℕ → ℕ
-limitAt code = getD (2 ^ 64 ∷ 2 ^ 64 ∷ 2 ^ 64 ∷ 2 ^ 128 ∷ 2 ^ 128 ∷ []) code (2 ^ 64)
+limitAt code = getD (2 ^ 64 ∷ 2 ^ 64 ∷ 2 ^ 64 ∷ []) code (2 ^ 128)
 
 -- the digest, as bytes, from the state after all blocks of a message
 unfoldable pub digestOf : (code : ℕ) → List Block → List ℕ

@@ -43,9 +43,12 @@ CLAIM = 10
 abbrev pub STALE : ℕ
 STALE = 11
 
--- and document 02's of the brine statement, Q-3
+-- and document 02's: of the brine statement, Q-3, and of odd bits, Q-7
 abbrev pub BATCH : ℕ
 BATCH = 13
+
+abbrev pub ODD : ℕ
+ODD = 17
 
 abbrev pub LIST : ℕ
 LIST = 25

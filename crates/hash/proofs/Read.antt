@@ -11,9 +11,9 @@ use Rattle.definition.specs.Buffer.{overwrite}
 use Rattle.definition.specs.Refusal.{RECORD, pick, firstOf, known, outRefusal, whenDone}
 use Rattle.hash_definition.specs.declared.Kept.{Kept}
 use Rattle.hash_definition.specs.declared.Lent.{Lent}
-use Rattle.hash_definition.specs.Record.{recordLength, allZero, wellFormed, wellKept, encode, decode, fed, finished}
-use Rattle.hash_definition.specs.Calls.{outcome, longRefusal, recordRefusal, feedRefusals, finishRefusals, feedOutcome, finishOutcome}
-use Rattle.hash_definition.specs.Lent.{lentOutcome, keptRefusal, lentFeedRefusals, lentFinishRefusals, lentFeedOutcome, lentFinishOutcome}
+use Rattle.hash_definition.specs.Record.{recordLength, allZero, bytesFed, wellFormed, wellHeld, wellKept, encode, decode, fedBits, finished}
+use Rattle.hash_definition.specs.Calls.{outcome, oddRefusal, longRefusal, recordRefusal, feedRefusals, finishRefusals, feedBitsOutcome, finishOutcome}
+use Rattle.hash_definition.specs.Lent.{lentOutcome, keptRefusal, lentFeedRefusals, lentFinishRefusals, lentFeedBitsOutcome, lentFinishOutcome}
 use Rattle.hash_record.specs.Reading.{framed, nothing, reading, written}
 
 module _ (b : List ℕ) where
@@ -24,27 +24,27 @@ module _ (b : List ℕ) where
   once (suc n) x y = refl
 
   -- by whether the length is right and the reserved bytes are zero
-  feed-by : (p : List ℕ) (l z : Bool)
-      → (let o : Lent = lentFeedOutcome (pick (l && z) (decode b) nothing) p in
+  feed-by : (p : List ℕ) (odd : ℕ) (l z : Bool)
+      → (let o : Lent = lentFeedBitsOutcome (pick (l && z) (decode b) nothing) p odd in
       record { number = o .number; buffer = whenDone (o .number) (pick l (encode (o .kept)) b) b })
-      ≡ outcome ((RECORD, not (l && z && wellKept (decode b))) ∷ longRefusal (decode b .count) (length p) ∷ []) (encode (fed (decode b) p)) b
-  unfolding pick nothing wellKept known lentFeedOutcome lentOutcome lentFeedRefusals keptRefusal outcome firstOf whenDone
-  feed-by p true true = rw once
-  feed-by p true false = refl
-  feed-by p false z = refl
+      ≡ outcome ((RECORD, not (l && z && wellKept (decode b))) ∷ oddRefusal (decode b .odd) odd (length p) ∷ longRefusal (decode b .code) (bytesFed (decode b)) odd (length p) ∷ []) (encode (fedBits (decode b) p odd)) b
+  unfolding pick nothing wellKept wellHeld known lentFeedBitsOutcome lentOutcome lentFeedRefusals keptRefusal outcome firstOf whenDone
+  feed-by p odd true true = rw once
+  feed-by p odd true false = refl
+  feed-by p odd false z = refl
 
   finish-by : (out : List ℕ) (t : Bool)
       → lentFinishOutcome (pick t (decode b) nothing) out
       ≡ outcome ((RECORD, not (t && wellKept (decode b))) ∷ outRefusal (bytesAt (decode b .code)) (length out) ∷ []) (overwrite (finished (decode b)) out) out
-  unfolding pick nothing wellKept known lentFinishOutcome lentFinishRefusals keptRefusal outcome firstOf whenDone
+  unfolding pick nothing wellKept wellHeld known lentFinishOutcome lentFinishRefusals keptRefusal outcome firstOf whenDone
   finish-by out true = refl
   finish-by out false = refl
 
-  pub feed-read : (p : List ℕ) (o : Lent) → o ≡ lentFeedOutcome (reading b) p
-      → record { number = o .number; buffer = whenDone (o .number) (written (o .kept) b) b } ≡ feedOutcome b p
-  unfolding reading framed written feedOutcome feedRefusals recordRefusal wellFormed
-  feed-read p o e = rw e (feed-by p (eqb (length b) recordLength) (allZero (take 7 (drop 1 b))))
+  pub feed-read : (p : List ℕ) (odd : ℕ) (o : Lent) → o ≡ lentFeedBitsOutcome (reading b) p odd
+      → record { number = o .number; buffer = whenDone (o .number) (written (o .kept) b) b } ≡ feedBitsOutcome b p odd
+  unfolding reading framed written feedBitsOutcome feedRefusals recordRefusal wellFormed
+  feed-read p odd o e = rw e (feed-by p odd (eqb (length b) recordLength) (allZero (take 6 (drop 2 b))))
 
   pub finish-read : (out : List ℕ) → lentFinishOutcome (reading b) out ≡ finishOutcome b out
   unfolding reading framed finishOutcome finishRefusals recordRefusal wellFormed
-  finish-read out = finish-by out (eqb (length b) recordLength && allZero (take 7 (drop 1 b)))
+  finish-read out = finish-by out (eqb (length b) recordLength && allZero (take 6 (drop 2 b)))

@@ -1,17 +1,38 @@
-// Luffa over messages and kept hash records: digest, start, feed, finish (document 01, "The kept hash record" and refusals 1 to 4). Each
-// call's outcome, the number and the buffer that was lent for writing, is one function of its inputs.
+// Luffa over messages and kept hash records: digest, start, feed, finish (document 01, "The kept hash record" and refusals 1 to 4; document 02,
+// Q-7). Each call's outcome, the number and the buffer that was lent for writing, is one function of its inputs.
 ghost use mathlib.Core.Path.{_≡_};
-ghost use Rattle.hash_definition.specs.Calls.{digestOutcome, startOutcome, feedOutcome, finishOutcome};
+ghost use Prim.Native.Nat.{_-_, _<_, _≤_};
+ghost use lib.ListN.{length, getD};
+ghost use Rattle.definition.specs.Padding.{wholeBytes, closingByte};
+ghost use Rattle.hash_record.specs.Reading.{waitingOf};
+ghost use Rattle.hash_definition.specs.Calls.{digestBitsOutcome, digestOutcome, startOutcome, feedBitsOutcome, feedOutcome, finishOutcome};
 use definition::Counted;
+use hash_definition::Held;
 
-// The digest of a message in one call.
-pub fn digest(code: usize, message: &[u8], out: &mut [u8]) -> u32
-    ensures { λ r. ⌜ record { number = r; buffer = now (out .exit) } ≡ digestOutcome code (now (message .entry)) (now (out .entry)) ⌝ }
+// The byte that closes a message of n whole bytes: its last one holds the odd bits where it isn't whole.
+fn closing(message: &[u8], odd: usize, n: usize) -> u8
+    ensures { λ r. ⌜ (odd ≤ 7 → (0 < odd → 0 < length (now (message .entry))) → n ≡ wholeBytes odd (length (now (message .entry))) → r ≡ closingByte odd (getD (now (message .entry)) n 0)) ⌝ }
+{
+    if n < message.len() {
+        return rounds::last::closing(odd, message[n]);
+    }
+    rounds::last::CLOSING
+}
+
+// The digest in one call of a message that may end with odd bits.
+pub fn digest_bits(code: usize, message: &[u8], odd: usize, out: &mut [u8]) -> u32
+    ensures { λ r. ⌜ record { number = r; buffer = now (out .exit) } ≡ digestBitsOutcome code (now (message .entry)) odd (now (out .entry)) ⌝ }
 {
     let words = codes::words(code);
+    let none = Held {
+        odd: 0,
+        pending: [0u8; 32],
+        high: 0,
+        low: 0,
+    };
     let size = refusals::first(
         refusals::out(4 * words, out.len()),
-        hash_kept::long(0, message.len()),
+        hash_kept::piece(code, none, odd, message.len()),
     );
     let number = refusals::first(refusals::width(code), size);
     if number != refusals::DONE {
@@ -22,9 +43,17 @@ pub fn digest(code: usize, message: &[u8], out: &mut [u8]) -> u32
         state: rounds::start(w),
         rounds: 0,
     };
-    let d = rounds::last::absorb_last(w, c, message);
+    let n = hash_kept::whole(odd, message.len());
+    let d = rounds::last::absorb_last(w, c, &message[..n], closing(message, odd, n));
     squeeze::squeeze(w, d, words, out);
     refusals::DONE
+}
+
+// The same of a message of whole bytes.
+pub fn digest(code: usize, message: &[u8], out: &mut [u8]) -> u32
+    ensures { λ r. ⌜ record { number = r; buffer = now (out .exit) } ≡ digestOutcome code (now (message .entry)) (now (out .entry)) ⌝ }
+{
+    digest_bits(code, message, 0, out)
 }
 
 // A fresh record at a code.
@@ -42,18 +71,52 @@ pub fn start(code: usize, record: &mut [u8]) -> u32
     refusals::DONE
 }
 
-// A piece fed to a record, which is altered where it lies.
-pub fn feed(record: &mut [u8], piece: &[u8]) -> u32
-    ensures { λ r. ⌜ record { number = r; buffer = now («record» .exit) } ≡ feedOutcome (now («record» .entry)) (now (piece .entry)) ⌝ }
+// A piece that completes no block: the state is judged where it lies, and stays there.
+fn feed_short(record: &mut [u8], piece: &[u8], odd: usize) -> u32
+    requires { ⌜ wholeBytes odd (length (now piece)) < 32 - waitingOf (now «record») ⌝ }
+    ensures { λ r. ⌜ record { number = r; buffer = now («record» .exit) } ≡ feedBitsOutcome (now («record» .entry)) (now (piece .entry)) odd ⌝ }
+{
+    let g = hash_record::glance(record);
+    let h = g.held;
+    let form = refusals::when(!g.well, refusals::RECORD);
+    let number = refusals::first(form, hash_kept::piece(g.code, h, odd, piece.len()));
+    if number != refusals::DONE {
+        return number;
+    }
+    hash_record::put_held(hash_pieces::short_fed(h, piece, odd), record);
+    refusals::DONE
+}
+
+// Any piece: the record is read, fed by value and written.
+fn feed_whole(record: &mut [u8], piece: &[u8], odd: usize) -> u32
+    ensures { λ r. ⌜ record { number = r; buffer = now («record» .exit) } ≡ feedBitsOutcome (now («record» .entry)) (now (piece .entry)) odd ⌝ }
 {
     let k = hash_record::read(record);
-    let a = hash_pieces::fed_answer(k, piece);
+    let a = hash_pieces::fed_answer(k, piece, odd);
     if a.number != refusals::DONE {
         return a.number;
     }
     let after = a.kept;
     hash_record::encode(after, record);
     refusals::DONE
+}
+
+// A piece, which may end with odd bits, fed to a record, which is altered where it lies.
+pub fn feed_bits(record: &mut [u8], piece: &[u8], odd: usize) -> u32
+    ensures { λ r. ⌜ record { number = r; buffer = now («record» .exit) } ≡ feedBitsOutcome (now («record» .entry)) (now (piece .entry)) odd ⌝ }
+{
+    let n = hash_kept::whole(odd, piece.len());
+    if n < 32 - hash_record::waiting(record) {
+        return feed_short(record, piece, odd);
+    }
+    feed_whole(record, piece, odd)
+}
+
+// The same of a piece of whole bytes.
+pub fn feed(record: &mut [u8], piece: &[u8]) -> u32
+    ensures { λ r. ⌜ record { number = r; buffer = now («record» .exit) } ≡ feedOutcome (now («record» .entry)) (now (piece .entry)) ⌝ }
+{
+    feed_bits(record, piece, 0)
 }
 
 // The digest of what a record was fed; the record stays as it is.

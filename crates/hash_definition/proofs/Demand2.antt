@@ -1,52 +1,81 @@
 -- Demand 2 over the byte form: a message digested at once, and the same message fed in pieces to a kept hash record and finished, give the
--- same digest, whatever the pieces.
+-- same digest, whatever the pieces, and whatever odd bits end the last.
 -- Assumes nothing.
 use mathlib.Core.Path.{_≡_, refl, ap, _∙_}
 use mathlib.Core.Bool.{true}
-use mathlib.Core.List.{List}
-use Prim.Native.Nat.{ℕ, _+_, _≤_}
+use mathlib.Core.List.{List, _++_}
+use Prim.Native.Nat.{ℕ, _+_, _*_, _<_, _≤_}
+use native.Mathlib.Omega.{arith}
 use lib.ListN.{length, replicate}
 use borrow.Author.Tests.{eq-eqb}
-use Rattle.hash_definition.specs.declared.Kept.{Kept}
-use Rattle.definition.specs.Luffa.{bytesAt, luffa}
+use Rattle.definition.specs.Padding.{wholeBytes, bitsIn}
+use Rattle.definition.specs.Luffa.{bytesAt, limitAt, luffaOfBits}
 use Rattle.definition.specs.Buffer.{overwrite, joined}
 use Rattle.definition.specs.Refusal.{pick, firstOf, known, widthRefusal, whenDone}
-use Rattle.hash_definition.specs.Record.{recordLength, limit, encode, started, fed}
+use Rattle.hash_definition.specs.Record.{recordLength, encode, started, fedBits}
 use Rattle.hash_definition.specs.Calls.{outcome, bufferRefusal, startRefusals, startOutcome, feedOutcome, finishOutcome}
-use Rattle.hash_definition.specs.Said.{done, inBytes, feedAll, Demand2}
+use Rattle.hash_definition.specs.Said.{done, inBytes, feedAll, Ends, Demand2, BitsDemand2}
+use Rattle.definition.proofs.BitStrings.{luffa-whole}
 use Rattle.hash_definition.proofs.Feeding.{keptOf, Sound, kept-sound, feed-each}
 use Rattle.hash_definition.proofs.Working.{lent-feed, lent-finish, sound-typed, sound-byte}
-use Rattle.hash_definition.proofs.WorkingDemand2.{lent-feed-done, kept-finish-done, digest-done}
+use Rattle.hash_definition.proofs.WorkingDemand2.{no-bits, lent-fed, kept-bits-sound, kept-finish-done, digest-done, ends-whole, bits-within, front-within, last-fed}
 
--- a known code and a buffer of 208 bytes: the record to begin with
+-- a known code and a buffer of 216 bytes: the record to begin with
 start-done : (code : ℕ) (b : List ℕ) → known code ≡ true → length b ≡ recordLength → startOutcome code b ≡ done (encode (started code))
 unfolding startOutcome outcome startRefusals widthRefusal bufferRefusal firstOf pick whenDone
 start-done code b k e = rw (k, eq-eqb (length b) recordLength e)
 
--- a piece within the limit: the bytes of what was fed
-feed-done : (k : Kept) (p : List ℕ) → Sound k → k .count + length p ≤ limit → feedOutcome (encode k) p ≡ done (encode (fed k p))
-feed-done k p s h = lent-feed k (sound-typed k s) (sound-byte k s) p ∙ ap inBytes (lent-feed-done k p (s .well) h)
+-- pieces of whole bytes, fed in turn
+fed-all : (code : ℕ) (ps : List (List ℕ)) → known code ≡ true → 8 * length (joined ps) < limitAt code
+    → feedAll (encode (started code)) ps ≡ record { numbers = replicate (length ps) 0; last = encode (keptOf code (joined ps)) }
+fed-all code ps k h =
+    feed-each (λ b p. feedOutcome b p .number) (λ b p. feedOutcome b p .buffer) encode
+    (λ j p s z i. rw (lent-feed j (sound-typed j s) (sound-byte j s) p 0, lent-fed j p (s .well) z i) (refl, refl)) code ps k h
 
--- an output buffer that is long enough: the digest of the message that the record holds
-finish-done : (code : ℕ) (x out : List ℕ) → known code ≡ true → length x ≤ limit → bytesAt code ≤ length out
-    → finishOutcome (encode (keptOf code x)) out ≡ done (overwrite (luffa code x) out)
-finish-done code x out k h l =
-    let s : Sound (keptOf code x) = kept-sound code x k h in
-    lent-finish (keptOf code x) (sound-typed _ s) (sound-byte _ s) out ∙ kept-finish-done code x out k h l
+-- an output buffer that is long enough: Luffa of the bit string that the record holds
+finish-done : (code : ℕ) (m : List ℕ) (odd : ℕ) (out : List ℕ) → known code ≡ true → Ends odd m
+    → 8 * wholeBytes odd (length m) + odd < limitAt code → bytesAt code ≤ length out
+    → finishOutcome (encode (fedBits (started code) m odd)) out ≡ done (overwrite (luffaOfBits code (bitsIn m odd)) out)
+finish-done code m odd out k e h l =
+    let s : Sound (fedBits (started code) m odd) = kept-bits-sound code m odd out k e h l in
+    lent-finish (fedBits (started code) m odd) (sound-typed _ s) (sound-byte _ s) out ∙ kept-finish-done code m odd out k e h l
 
--- Demand 2 holds for every known code, every buffer of 208 bytes, every message of at most 2^61 - 1 bytes in any pieces, empty ones too,
--- and every output buffer that has room for the digest
+-- Demand 2 holds for every known code, every buffer of 216 bytes, every message of whole bytes under Table 1's limit in any pieces, empty ones
+-- too, and every output buffer that has room for the digest
 pub demand2 : (code : ℕ) (b : List ℕ) (ps : List (List ℕ)) (out : List ℕ)
-    → known code ≡ true → length b ≡ recordLength → length (joined ps) ≤ limit → bytesAt code ≤ length out
+    → known code ≡ true → length b ≡ recordLength → 8 * length (joined ps) < limitAt code → bytesAt code ≤ length out
     → Demand2 code b ps out
+unfolding fedBits wholeBytes
 demand2 code b ps out k e h l =
     let s = start-done code b k e in
-    let f : feedAll (encode (started code)) ps ≡ record { numbers = replicate (length ps) 0; last = encode (keptOf code (joined ps)) } =
-    feed-each (λ b p. feedOutcome b p .number) (λ b p. feedOutcome b p .buffer) encode
-    (λ j p s i. rw (feed-done j p s i) (refl, refl)) code ps k h in
+    let f = fed-all code ps k h in
+    let m : List ℕ = joined ps in
+    let i : 8 * length m + 0 < limitAt code = omega arith in
+    let whole = ap (λ (d : List ℕ). done (overwrite d out)) (luffa-whole code m) in
     record {
       started = rw s;
       fed = rw (s, f);
-      finished = rw (s, f) (finish-done code (joined ps) out k h l);
-      digested = digest-done code (joined ps) out k h l;
+      finished = rw (s, f) (finish-done code m 0 out k (no-bits m) i l ∙ whole);
+      digested = digest-done code m 0 out k (no-bits m) i l ∙ whole;
+    }
+
+-- and of every bit length under Table 1's limit: the last piece ends with odd bits or without
+pub bits-demand2 : (code : ℕ) (b : List ℕ) (ps : List (List ℕ)) (last : List ℕ) (odd : ℕ) (out : List ℕ)
+    → known code ≡ true → length b ≡ recordLength → Ends odd last → length (bitsIn (joined ps ++ last) odd) < limitAt code
+    → bytesAt code ≤ length out → BitsDemand2 code b ps last odd out
+bits-demand2 code b ps last odd out k e o h l =
+    let s = start-done code b k e in
+    let front = front-within code ps last odd k o h in
+    let f = fed-all code ps k front in
+    let j : Sound (keptOf code (joined ps)) = kept-sound code (joined ps) k front in
+    let d = lent-feed (keptOf code (joined ps)) (sound-typed _ j) (sound-byte _ j) last odd ∙ ap inBytes (last-fed code ps last odd k o h) in
+    let m : List ℕ = joined ps ++ last in
+    let q : Ends odd m = ends-whole code ps last odd k o h in
+    let i = bits-within code ps last odd k o h in
+    record {
+      started = rw s;
+      fed = rw (s, f);
+      ended = rw (s, f, d);
+      finished = rw (s, f, d) (finish-done code m odd out k q i l);
+      digested = digest-done code m odd out k q i l;
     }

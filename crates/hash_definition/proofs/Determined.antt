@@ -4,17 +4,17 @@ use mathlib.Core.List.{List}
 use Prim.Native.Nat.{ℕ}
 use Rattle.definition.proofs.Determined.{Determined, determined}
 use Rattle.hash_definition.specs.declared.Kept.{Kept}
-use Rattle.hash_definition.specs.Calls.{digestOutcome, startOutcome, feedOutcome, finishOutcome}
-use Rattle.hash_definition.specs.Lent.{lentStartOutcome, lentFeedOutcome, lentFinishOutcome}
+use Rattle.hash_definition.specs.Calls.{digestBitsOutcome, startOutcome, feedBitsOutcome, finishOutcome}
+use Rattle.hash_definition.specs.Lent.{lentStartOutcome, lentFeedBitsOutcome, lentFinishOutcome}
 
-pub digest-determined : (code : ℕ) (message out : List ℕ) → Determined (digestOutcome code message out)
-digest-determined code message out = determined (digestOutcome code message out)
+pub digest-determined : (code : ℕ) (message : List ℕ) (odd : ℕ) (out : List ℕ) → Determined (digestBitsOutcome code message odd out)
+digest-determined code message odd out = determined (digestBitsOutcome code message odd out)
 
 pub start-determined : (code : ℕ) (buffer : List ℕ) → Determined (startOutcome code buffer)
 start-determined code buffer = determined (startOutcome code buffer)
 
-pub feed-determined : (b piece : List ℕ) → Determined (feedOutcome b piece)
-feed-determined b piece = determined (feedOutcome b piece)
+pub feed-determined : (b piece : List ℕ) (odd : ℕ) → Determined (feedBitsOutcome b piece odd)
+feed-determined b piece odd = determined (feedBitsOutcome b piece odd)
 
 pub finish-determined : (b out : List ℕ) → Determined (finishOutcome b out)
 finish-determined b out = determined (finishOutcome b out)
@@ -22,8 +22,8 @@ finish-determined b out = determined (finishOutcome b out)
 pub lent-start-determined : (code : ℕ) (k : Kept) → Determined (lentStartOutcome code k)
 lent-start-determined code k = determined (lentStartOutcome code k)
 
-pub lent-feed-determined : (k : Kept) (piece : List ℕ) → Determined (lentFeedOutcome k piece)
-lent-feed-determined k piece = determined (lentFeedOutcome k piece)
+pub lent-feed-determined : (k : Kept) (piece : List ℕ) (odd : ℕ) → Determined (lentFeedBitsOutcome k piece odd)
+lent-feed-determined k piece odd = determined (lentFeedBitsOutcome k piece odd)
 
 pub lent-finish-determined : (k : Kept) (out : List ℕ) → Determined (lentFinishOutcome k out)
 lent-finish-determined k out = determined (lentFinishOutcome k out)

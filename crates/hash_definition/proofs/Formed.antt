@@ -3,21 +3,19 @@
 use mathlib.Core.Path.{_≡_}
 use mathlib.Core.Bool.{true}
 use mathlib.Core.List.{List}
-use Prim.Native.Nat.{ℕ, _≤_}
+use Prim.Native.Nat.{ℕ}
 use native.Mathlib.Omega.{arith}
 use borrow.Author.Tests.{eqb-true}
 use lib.Dec.{eqb}
 use lib.ListN.{length, take, drop, length-drop}
 use lib.Seq.{length-take-le}
-use Rattle.hash_definition.specs.Record.{recordLength, limit, allZero, wellKept, decode, wellFormed}
+use Rattle.hash_definition.specs.Record.{recordLength, allZero, wellKept, decode, wellFormed}
 use Rattle.definition.proofs.Conditions.{both-true}
-use Rattle.hash_definition.proofs.Feeding.{well-kept}
 
 pub record Formed (b : List ℕ) : Type 0 where
   pub size : length b ≡ recordLength
-  pub reserved : allZero (take 7 (drop 1 b)) ≡ true
+  pub reserved : allZero (take 6 (drop 2 b)) ≡ true
   pub holds : wellKept (decode b) ≡ true
-  pub within : decode b .count ≤ limit
   pub buffer : length (decode b .pending) ≡ 32
 
 pending-length : (b : List ℕ) → length b ≡ recordLength → length (decode b .pending) ≡ 32
@@ -34,6 +32,5 @@ formed b e =
       size = n;
       reserved = t .1;
       holds = s .1;
-      within = well-kept (decode b) (s .1) .count-le;
       buffer = pending-length b n;
     }

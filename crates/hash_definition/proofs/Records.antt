@@ -1,10 +1,10 @@
 -- The byte form of the kept hash record: its length, and that writing a record and reading it back gives the record, either way round.
 -- Assumes nothing.
-use mathlib.Core.Path.{_≡_, refl, ap₂}
+use mathlib.Core.Path.{_≡_, refl, sym, ap, ap₂, _∙_}
 use mathlib.Core.Bool.{true}
-use mathlib.Core.List.{List, [], _∷_, _++_, append-assoc}
+use mathlib.Core.List.{List, [], _∷_, _++_, append-assoc, append-nil}
 use Prim.Native.Nat.{ℕ, suc, _+_, _*_, _/_, _%_, _^_, _<_, _≤_}
-use native.Mathlib.Nat.{mod-eq-of-lt}
+use native.Mathlib.Nat.{mod-eq-of-lt, add-assoc}
 use native.Mathlib.Numerals.{towards-suc}
 use native.Mathlib.Omega.{arith}
 use lib.ListN.{length, getD, take, drop, replicate, length-append, length-drop, take-append-drop, drop-of-length-le}
@@ -15,24 +15,25 @@ use Rattle.hash_definition.specs.declared.Kept.{Kept}
 use Rattle.definition.specs.Word.{wordOf, bytesOf, bytesOfAll}
 use Rattle.definition.specs.Block.{wordsOf, wordAt, blockOf, wordsOfAll}
 use Rattle.definition.specs.State.{five}
-use Rattle.hash_definition.specs.Record.{countWords, encode, blockIn, decode, allZero, wellFormed}
+use Rattle.hash_definition.specs.Record.{countAt, countWords, numberAt, encode, blockIn, decode, allZero, wellFormed}
+use Rattle.hash_definition.specs.Said.{Typed}
 use Rattle.definition.proofs.Word.{bytes-append, bytes-of-word, word-of-bytes}
-use Rattle.hash_definition.proofs.Feeding.{zeros}
+use Rattle.hash_definition.proofs.Zeros.{zeros}
 use Rattle.hash_definition.proofs.Formed.{Formed, formed}
 
 -- the bytes of the count at a record's end
 tailOf : Kept → List ℕ
-tailOf k = bytesOfAll (countWords (k .count))
+tailOf k = bytesOfAll (countWords (k .high) ++ countWords (k .low))
 
--- a record has 208 bytes
-pub length-encode : (k : Kept) → length (k .pending) ≡ 32 → length (encode k) ≡ 208
+-- a record has 216 bytes
+pub length-encode : (k : Kept) → length (k .pending) ≡ 32 → length (encode k) ≡ 216
 unfolding encode five wordsOfAll wordsOf bytesOfAll bytesOf countWords
-length-encode k e = omega (arith, length-append (k .pending) (bytesOfAll (countWords (k .count))))
+length-encode k e = omega (arith, length-append (k .pending) (bytesOfAll (countWords (k .high) ++ countWords (k .low))))
 
--- the seven bytes after the code
-pub seven-zeros : (k : Kept) → allZero (take 7 (drop 1 (encode k))) ≡ true
+-- the six bytes after code and odd bits
+pub six-zeros : (k : Kept) → allZero (take 6 (drop 2 (encode k))) ≡ true
 unfolding encode allZero
-seven-zeros k = refl
+six-zeros k = refl
 
 -- the pending bytes and the count, read from a record's bytes
 pending-back : (k : Kept) → length (k .pending) ≡ 32 → take 32 (drop 168 (encode k)) ≡ k .pending
@@ -43,17 +44,24 @@ tail-back : (k : Kept) → length (k .pending) ≡ 32 → drop 200 (encode k) �
 unfolding encode five wordsOfAll wordsOf bytesOfAll bytesOf tailOf
 tail-back k e = drop-at (k .pending) (tailOf k) 32 e
 
-count-back : (k : Kept) → length (k .pending) ≡ 32 → k .count < 2 ^ 64
-    → wordAt (drop 200 (encode k)) 0 * 2 ^ 32 + wordAt (drop 204 (encode k)) 0 ≡ k .count
-unfolding tailOf countWords bytesOfAll bytesOf wordAt
-count-back k e h =
-    rw (
-      ← drop-drop 4 200 (encode k),
-      tail-back k e,
-      word-of-bytes (k .count / 2 ^ 32) (omega arith),
-      word-of-bytes (k .count % 2 ^ 32) (omega arith),
-    )
-    (Pow.split (k .count) 32)
+-- a number of 64 bits read from its own bytes
+number-back : (n : ℕ) (x : List ℕ) → n < 2 ^ 64 → numberAt 0 (bytesOfAll (countWords n) ++ x) ≡ n
+unfolding numberAt countWords bytesOfAll bytesOf wordAt
+number-back n x h = rw (word-of-bytes (n / 2 ^ 32) (omega arith), word-of-bytes (n % 2 ^ 32) (omega arith)) (Pow.split n 32)
+
+number-drop : (i j : ℕ) (b : List ℕ) → numberAt (i + j) b ≡ numberAt j (drop i b)
+unfolding numberAt
+number-drop i j b = rw (drop-drop j i b, drop-drop (j + 4) i b, add-assoc i j 4)
+
+high-back : (k : Kept) → length (k .pending) ≡ 32 → k .high < 2 ^ 64 → numberAt countAt (encode k) ≡ k .high
+unfolding tailOf
+high-back k e h = number-drop 200 0 (encode k) ∙ rw (tail-back k e, bytes-append (countWords (k .high)) (countWords (k .low))) (number-back (k .high) _ h)
+
+low-back : (k : Kept) → length (k .pending) ≡ 32 → k .low < 2 ^ 64 → numberAt (countAt + 8) (encode k) ≡ k .low
+unfolding tailOf
+low-back k e h =
+    number-drop 200 8 (encode k) ∙ ap (numberAt 8) (tail-back k e) ∙ number-drop 8 0 (tailOf k)
+    ∙ unfold countWords bytesOfAll bytesOf in (rw (append-nil (bytesOfAll (countWords (k .low)))) at (number-back (k .low) [] h))
 
 -- a block read from its own bytes
 block-back : (b : Block) (l ws : List ℕ) → ((i : ℕ) → getD (wordsOf b ++ ws) i 0 < 2 ^ 32) → blockOf (bytesOfAll (wordsOf b) ++ l) ≡ b
@@ -84,11 +92,17 @@ state-back k h =
     }
 
 -- writing a record and reading it back gives the record
-pub decode-encode : (k : Kept) → k .code < 256 → ((i : ℕ) → getD (wordsOfAll (five (k .state))) i 0 < 2 ^ 32)
-    → length (k .pending) ≡ 32 → k .count < 2 ^ 64 → decode (encode k) ≡ k
+pub decode-encode : (k : Kept) → k .code < 256 → Typed k → decode (encode k) ≡ k
 unfolding decode encode
-decode-encode k c h e n =
-    λ i. record { code = mod-eq-of-lt c i; state = state-back k h i; pending = pending-back k e i; count = count-back k e n i }
+decode-encode k c t =
+    λ i. record {
+      code = mod-eq-of-lt c i;
+      odd = mod-eq-of-lt (t .odd) i;
+      state = state-back k (t .words) i;
+      pending = pending-back k (t .pending) i;
+      high = high-back k (t .pending) (t .high) i;
+      low = low-back k (t .pending) (t .low) i;
+    }
 
 -- bytes of a string, each below 256, read as a word and written again
 word-glue : (x : List ℕ) (k : ℕ) → ((i : ℕ) → getD x i 0 < 256) → 4 * k + 4 ≤ length x
@@ -133,7 +147,7 @@ block-in-glue b h j e =
     rw (drop-drop 32 n b) at (block-glue (drop n b) (bytes-drop n b h) (omega (arith, length-drop n b)))
 
 -- the state of a record read and written again
-state-glue : (b : List ℕ) → ((i : ℕ) → getD b i 0 < 256) → length b ≡ 208
+state-glue : (b : List ℕ) → ((i : ℕ) → getD b i 0 < 256) → length b ≡ 216
     → bytesOfAll (wordsOfAll (five (decode b .state))) ++ drop 168 b ≡ drop 8 b
 unfolding decode five wordsOfAll bytesOfAll
 state-glue b h e =
@@ -154,33 +168,47 @@ pub word-lt : (x : List ℕ) (k : ℕ) → ((i : ℕ) → getD x i 0 < 256) → 
 unfolding wordAt wordOf
 word-lt x k h = omega (arith, h (4 * k), h (4 * k + 1), h (4 * k + 2), h (4 * k + 3))
 
--- the count of a record read and written again
-count-glue : (b : List ℕ) → ((i : ℕ) → getD b i 0 < 256) → length b ≡ 208 → bytesOfAll (countWords (decode b .count)) ≡ drop 200 b
-unfolding decode countWords bytesOfAll
-count-glue b h e =
-    let lo : wordAt (drop 204 b) 0 < 2 ^ 32 = word-lt (drop 204 b) 0 (bytes-drop 204 b h) in
-    let p = word-glue (drop 204 b) 0 (bytes-drop 204 b h) (omega (arith, length-drop 204 b)) in
-    let q = word-glue (drop 200 b) 0 (bytes-drop 200 b h) (omega (arith, length-drop 200 b)) in
-    rw (
-      Pow.high (wordAt (drop 200 b) 0) 32 lo,
-      Pow.low (wordAt (drop 200 b) 0) 32 lo,
-      rw (drop-of-length-le (drop 204 b) {i = 4} (omega (arith, length-drop 204 b))) at p,
-      rw (drop-drop 4 200 b) at q,
-    )
+-- a number of a record read and written again
+pub number-lt : (i : ℕ) (b : List ℕ) → ((j : ℕ) → getD b j 0 < 256) → numberAt i b < 2 ^ 64
+unfolding numberAt
+number-lt i b h = omega (arith, word-lt (drop i b) 0 (bytes-drop i b h), word-lt (drop (i + 4) b) 0 (bytes-drop (i + 4) b h))
 
--- the code and the zeros after it
-head-glue : (b : List ℕ) → getD b 0 0 < 256 → length b ≡ 208 → allZero (take 7 (drop 1 b)) ≡ true
-    → (getD b 0 0 % 256 ∷ replicate 7 0) ++ drop 8 b ≡ b
+number-glue : (i : ℕ) (b : List ℕ) → ((j : ℕ) → getD b j 0 < 256) → i + 8 ≤ length b
+    → bytesOfAll (countWords (numberAt i b)) ++ drop (i + 8) b ≡ drop i b
+unfolding numberAt countWords bytesOfAll
+number-glue i b h e =
+    let lo : wordAt (drop (i + 4) b) 0 < 2 ^ 32 = word-lt (drop (i + 4) b) 0 (bytes-drop (i + 4) b h) in
+    let m : i + 4 + 4 ≡ i + 8 = omega arith in
+    let p : bytesOf (wordAt (drop (i + 4) b) 0) ++ drop (i + 8) b ≡ drop (i + 4) b =
+    rw (drop-drop 4 (i + 4) b, m) at (word-glue (drop (i + 4) b) 0 (bytes-drop (i + 4) b h) (omega (arith, length-drop (i + 4) b))) in
+    let q : bytesOf (wordAt (drop i b) 0) ++ drop (i + 4) b ≡ drop i b =
+    rw (drop-drop 4 i b) at (word-glue (drop i b) 0 (bytes-drop i b h) (omega (arith, length-drop i b))) in
+    rw (Pow.high (wordAt (drop i b) 0) 32 lo, Pow.low (wordAt (drop i b) 0) 32 lo)
+    (simp (append-assoc, append-nil) (rw p q))
+
+count-glue : (b : List ℕ) → ((i : ℕ) → getD b i 0 < 256) → length b ≡ 216
+    → bytesOfAll (countWords (decode b .high) ++ countWords (decode b .low)) ≡ drop 200 b
+unfolding decode
+count-glue b h e =
+    let p = number-glue 208 b h (omega arith) in
+    rw (bytes-append (countWords (numberAt 200 b)) (countWords (numberAt 208 b)))
+    (rw (sym (append-nil (bytesOfAll (countWords (numberAt 208 b)))) ∙ ap (λ (x : List ℕ). bytesOfAll (countWords (numberAt 208 b)) ++ x) (sym (drop-of-length-le b {i = 216} (omega arith))) ∙ p)
+    (number-glue 200 b h (omega arith)))
+
+-- code, odd bits and the zeros after them
+head-glue : (b : List ℕ) → ((i : ℕ) → getD b i 0 < 256) → length b ≡ 216 → allZero (take 6 (drop 2 b)) ≡ true
+    → (getD b 0 0 % 256 ∷ getD b 1 0 % 256 ∷ replicate 6 0) ++ drop 8 b ≡ b
 head-glue [] h e z = absurd (omega arith)
-head-glue (a ∷ b) h e z =
-    let r : take 7 b ≡ replicate 7 0 = rw (length-take-le 7 b (omega arith)) at (zeros (take 7 b) z) in
-    ap₂ (λ (c : ℕ) (m : List ℕ). c ∷ m) (mod-eq-of-lt h) (rw r at (take-append-drop 7 b))
+head-glue (a ∷ []) h e z = absurd (omega arith)
+head-glue (a ∷ o ∷ b) h e z =
+    let r : take 6 b ≡ replicate 6 0 = rw (length-take-le 6 b (omega arith)) at (zeros (take 6 b) z) in
+    ap₂ (λ (c : ℕ) (m : List ℕ). c ∷ m) (mod-eq-of-lt (h 0)) (ap₂ (λ (c : ℕ) (m : List ℕ). c ∷ m) (mod-eq-of-lt (h 1)) (rw r at (take-append-drop 6 b)))
 
 -- reading a well formed record and writing it again gives its bytes
 pub encode-decode : (b : List ℕ) → ((i : ℕ) → getD b i 0 < 256) → wellFormed b ≡ true → encode (decode b) ≡ b
 unfolding encode decode
 encode-decode b h w =
     let f : Formed b = formed b w in
-    let l : length b ≡ 208 = f .size in
+    let l : length b ≡ 216 = f .size in
     simp append-assoc
-    (rw (count-glue b h l, pending-glue b, state-glue b h l) (head-glue b (h 0) l (f .reserved)))
+    (rw (count-glue b h l, pending-glue b, state-glue b h l) (head-glue b h l (f .reserved)))

@@ -1,6 +1,6 @@
 -- The outcome of each call over a working state that the caller lends: document 01, "The kept hash record", last paragraph, "Within one program
 -- the same is wanted over a working state that the caller lends, with feeding altering it where it stands". The working state is a `Kept` in
--- memory in place of its 208 bytes. An outcome is the answer's number and what was lent for writing, as it is at the end.
+-- memory in place of its 216 bytes. An outcome is the answer's number and what was lent for writing, as it is at the end.
 use Prim.Native.Nat.{ℕ}
 use mathlib.Core.Bool.{not}
 use mathlib.Core.List.{List, [], _∷_}
@@ -10,8 +10,8 @@ use Rattle.hash_definition.specs.declared.Lent.{Lent}
 use Rattle.definition.specs.Luffa.{bytesAt}
 use Rattle.definition.specs.Buffer.{overwrite}
 use Rattle.definition.specs.Refusal.{Refusal, RECORD, firstOf, widthRefusal, outRefusal, whenDone}
-use Rattle.hash_definition.specs.Record.{wellKept, started, fed, finished}
-use Rattle.hash_definition.specs.Calls.{Outcome, outcome, longRefusal}
+use Rattle.hash_definition.specs.Record.{bytesFed, wellKept, started, fedBits, finished}
+use Rattle.hash_definition.specs.Calls.{Outcome, outcome, oddRefusal, longRefusal}
 
 -- "A refusal writes nothing"
 unfoldable pub lentOutcome : List Refusal → (after before : Kept) → Lent
@@ -25,8 +25,9 @@ keptRefusal k = (RECORD, not (wellKept k))
 unfoldable pub lentStartRefusals : (code : ℕ) → List Refusal
 lentStartRefusals code = widthRefusal code ∷ []
 
-unfoldable pub lentFeedRefusals : Kept → (pieceLength : ℕ) → List Refusal
-lentFeedRefusals k pieceLength = keptRefusal k ∷ longRefusal (k .count) pieceLength ∷ []
+unfoldable pub lentFeedRefusals : Kept → (odd pieceLength : ℕ) → List Refusal
+lentFeedRefusals k odd pieceLength =
+    keptRefusal k ∷ oddRefusal (k .odd) odd pieceLength ∷ longRefusal (k .code) (bytesFed k) odd pieceLength ∷ []
 
 unfoldable pub lentFinishRefusals : Kept → (outLength : ℕ) → List Refusal
 lentFinishRefusals k outLength = keptRefusal k ∷ outRefusal (bytesAt (k .code)) outLength ∷ []
@@ -35,8 +36,12 @@ lentFinishRefusals k outLength = keptRefusal k ∷ outRefusal (bytesAt (k .code)
 unfoldable pub lentStartOutcome : (code : ℕ) → Kept → Lent
 lentStartOutcome code k = lentOutcome (lentStartRefusals code) (started code) k
 
-unfoldable pub lentFeedOutcome : Kept → (piece : List ℕ) → Lent
-lentFeedOutcome k piece = lentOutcome (lentFeedRefusals k (length piece)) (fed k piece) k
+unfoldable pub lentFeedBitsOutcome : Kept → (piece : List ℕ) → (odd : ℕ) → Lent
+lentFeedBitsOutcome k piece odd = lentOutcome (lentFeedRefusals k odd (length piece)) (fedBits k piece odd) k
 
 unfoldable pub lentFinishOutcome : Kept → (out : List ℕ) → Outcome
 lentFinishOutcome k out = outcome (lentFinishRefusals k (length out)) (overwrite (finished k) out) out
+
+-- whole bytes: no odd bits
+abbrev pub lentFeedOutcome : Kept → (piece : List ℕ) → Lent
+lentFeedOutcome k piece = lentFeedBitsOutcome k piece 0

@@ -2,19 +2,20 @@
 -- sentence each.
 use mathlib.Core.Path.{_≡_}
 use mathlib.Core.Bool.{true}
-use mathlib.Core.List.{List, [], _∷_}
-use Prim.Native.Nat.{ℕ, _^_, _<_}
+use mathlib.Core.List.{List, [], _∷_, _++_}
+use Prim.Native.Nat.{ℕ, _^_, _<_, _≤_}
 use lib.ListN.{length, getD, replicate}
 use Rattle.hash_definition.specs.declared.Kept.{Kept}
 use Rattle.hash_definition.specs.declared.Lent.{Lent}
 use Rattle.definition.specs.Block.{wordsOfAll}
 use Rattle.definition.specs.State.{five}
-use Rattle.definition.specs.Luffa.{luffa}
+use Rattle.definition.specs.Padding.{bitsIn}
+use Rattle.definition.specs.Luffa.{luffaOfBits, luffa}
 use Rattle.definition.specs.Buffer.{overwrite, joined}
 use Rattle.definition.specs.Refusal.{LONG}
-use Rattle.hash_definition.specs.Record.{encode, decode, wellFormed, fed}
-use Rattle.hash_definition.specs.Calls.{Outcome, digestOutcome, startOutcome, feedOutcome, finishOutcome}
-use Rattle.hash_definition.specs.Lent.{lentStartOutcome, lentFeedOutcome, lentFinishOutcome}
+use Rattle.hash_definition.specs.Record.{encode, decode, wellFormed, fedBits}
+use Rattle.hash_definition.specs.Calls.{Outcome, digestBitsOutcome, digestOutcome, startOutcome, feedBitsOutcome, feedOutcome, finishOutcome}
+use Rattle.hash_definition.specs.Lent.{lentStartOutcome, lentFeedBitsOutcome, lentFeedOutcome, lentFinishOutcome}
 
 -- 0, "done": a call that is done, and the buffer or the working state that it leaves
 abbrev pub done : List ℕ → Outcome
@@ -23,9 +24,12 @@ done buffer = record { number = 0; buffer = buffer }
 abbrev pub taken : Kept → Lent
 taken k = record { number = 0; kept = k }
 
--- a call refused because "bytes so far plus this piece pass 2^61 - 1", and its buffer
+-- a refused call, and its buffer
+abbrev pub refused : (number : ℕ) → List ℕ → Outcome
+refused n buffer = record { number = n; buffer = buffer }
+
 abbrev pub long : List ℕ → Outcome
-long buffer = record { number = LONG; buffer = buffer }
+long buffer = refused LONG buffer
 
 -- the answers of calls that feed pieces in turn, and what the last of them leaves: "with feeding altering it where it stands"
 pub record Fed (A : Type 0) : Type 0 where
@@ -61,18 +65,41 @@ pub record LentDemand2 (code : ℕ) (k : Kept) (ps : List (List ℕ)) (out : Lis
   pub fed : lentFeedAll (lentStartOutcome code k .kept) ps .numbers ≡ replicate (length ps) 0
   pub finished : lentFinishOutcome (lentFeedAll (lentStartOutcome code k .kept) ps .last) out ≡ digestOutcome code (joined ps) out
 
+-- "odd bits with an empty piece" and "an odd-bit number over 7" aside: odd bits that a last piece can have
+abbrev pub Ends : (odd : ℕ) → (last : List ℕ) → Type 0
+Ends odd last = (odd ≤ 7) × (0 < odd → 0 < length last)
+
+-- Q-7: "Demand 2 now covers all bit lengths under Table 1". After pieces of whole bytes comes the last, which may end with odd bits: it is
+-- accepted too, and finishing gives Luffa of the bit string, as digesting it at once does.
+pub record BitsDemand2 (code : ℕ) (buffer : List ℕ) (ps : List (List ℕ)) (last : List ℕ) (odd : ℕ) (out : List ℕ) : Type 0 where
+  pub started : startOutcome code buffer .number ≡ 0
+  pub fed : feedAll (startOutcome code buffer .buffer) ps .numbers ≡ replicate (length ps) 0
+  pub ended : feedBitsOutcome (feedAll (startOutcome code buffer .buffer) ps .last) last odd .number ≡ 0
+  pub finished : finishOutcome (feedBitsOutcome (feedAll (startOutcome code buffer .buffer) ps .last) last odd .buffer) out
+      ≡ done (overwrite (luffaOfBits code (bitsIn (joined ps ++ last) odd)) out)
+  pub digested : digestBitsOutcome code (joined ps ++ last) odd out ≡ done (overwrite (luffaOfBits code (bitsIn (joined ps ++ last) odd)) out)
+
+pub record LentBitsDemand2 (code : ℕ) (k : Kept) (ps : List (List ℕ)) (last : List ℕ) (odd : ℕ) (out : List ℕ) : Type 0 where
+  pub started : lentStartOutcome code k .number ≡ 0
+  pub fed : lentFeedAll (lentStartOutcome code k .kept) ps .numbers ≡ replicate (length ps) 0
+  pub ended : lentFeedBitsOutcome (lentFeedAll (lentStartOutcome code k .kept) ps .last) last odd .number ≡ 0
+  pub finished : lentFinishOutcome (lentFeedBitsOutcome (lentFeedAll (lentStartOutcome code k .kept) ps .last) last odd .kept) out
+      ≡ digestBitsOutcome code (joined ps ++ last) odd out
+
 -- "a well-formed record always has one defined continuation": feeding a piece to a record is accepted, the record that it leaves is well formed
 -- again, and it holds what was fed
-pub record AnyFed (record' piece : List ℕ) : Type 0 where
-  pub accepts : feedOutcome record' piece ≡ done (encode (fed (decode record') piece))
-  pub formed : wellFormed (encode (fed (decode record') piece)) ≡ true
-  pub holds : decode (encode (fed (decode record') piece)) ≡ fed (decode record') piece
+pub record AnyFed (record' piece : List ℕ) (odd : ℕ) : Type 0 where
+  pub accepts : feedBitsOutcome record' piece odd ≡ done (encode (fedBits (decode record') piece odd))
+  pub formed : wellFormed (encode (fedBits (decode record') piece odd)) ≡ true
+  pub holds : decode (encode (fedBits (decode record') piece odd)) ≡ fedBits (decode record') piece odd
 
--- a working state whose fields fit a record's: "40 state words", "32 pending bytes", a count in eight bytes
+-- a working state whose fields fit a record's: "40 state words", "32 pending bytes", a byte of odd bits, a count in 16 bytes
 pub record Typed (k : Kept) : Type 0 where
   pub words : (i : ℕ) → getD (wordsOfAll (five (k .state))) i 0 < 2 ^ 32
   pub pending : length (k .pending) ≡ 32
-  pub count : k .count < 2 ^ 64
+  pub odd : k .odd < 256
+  pub high : k .high < 2 ^ 64
+  pub low : k .low < 2 ^ 64
 
 -- the outcome of the byte form that answers an outcome over a working state
 abbrev pub inBytes : Lent → Outcome

@@ -1,2 +1,4 @@
 -- Laws that the proofs share.
+pub mod Limit
 pub mod Tests
+pub mod Zeros

@@ -8,18 +8,22 @@ use native.Mathlib.Nat.{zero-add}
 use native.Mathlib.Omega.{arith}
 use lib.ListN.{length, take, drop, replicate, length-append, length-drop, take-append-drop, drop-of-length-le}
 use lib.Seq.{length-take-le, drop-drop}
-use Rattle.hash_definition.specs.declared.Kept.{Kept}
 use Rattle.definition.specs.declared.State.{State}
 use Rattle.definition.specs.declared.Width.{Width}
+use Rattle.hash_definition.specs.declared.Kept.{Kept}
 use Rattle.definition.specs.Round.{chain}
 use Rattle.definition.specs.Padding.{blocks, rest}
 use Rattle.definition.specs.State.{blocksIn, stateOf}
+use Rattle.definition.specs.Luffa.{limitAt}
 use Rattle.definition.specs.Buffer.{overwriteAt}
 use Rattle.definition.specs.Width.{widthAt}
-use Rattle.hash_definition.specs.Record.{allZero, withZeros, pendingCount, pendingBytes, wellKept, fed}
+use Rattle.hash_definition.specs.Record.{allZero, withZeros, bytesFed, pendingCount, pendingBytes, fed}
+use Rattle.hash_pieces.specs.Short.{highOf, lowOf}
 use Rattle.definition.proofs.Chain.{chain-append, length-blocksIn, blocks-of-chain}
-use Rattle.definition.proofs.Padding.{blocks-none, blocks-append, rest-short, rest-feed, rest-whole}
-use Rattle.hash_definition.proofs.Feeding.{zeros, well-kept}
+use Rattle.definition.proofs.Padding.{blocks-none, blocks-append, rest-feed, rest-whole}
+use Rattle.hash_definition.proofs.Zeros.{zeros}
+use Rattle.hash_definition.proofs.Ending.{pending-lt}
+use Rattle.hash_pieces.proofs.Counts.{high-sum, low-sum}
 
 -- nothing pending, and so no front
 pub empty-front : (w : Width) (s : State) (p front : List ℕ) (pos : ℕ) → pos ≡ 0 → length front ≡ (32 - pos) % 32
@@ -47,7 +51,7 @@ unfolding overwriteAt withZeros
 zero-paste x = rw (drop-zeros (0 + length x) 32, zero-add (length x))
 
 -- the zeros after the pending bytes and a piece
-after-piece : (p piece : List ℕ) (pos : ℕ) → length p ≡ 32 → allZero (drop pos p) ≡ true → pos + length piece ≤ 32
+pub after-piece : (p piece : List ℕ) (pos : ℕ) → length p ≡ 32 → allZero (drop pos p) ≡ true → pos + length piece ≤ 32
     → drop (pos + length piece) p ≡ replicate (32 - length (take pos p ++ piece)) 0
 after-piece p piece pos e z h =
     let n : length (drop pos p) - length piece ≡ 32 - length (take pos p ++ piece) =
@@ -55,23 +59,6 @@ after-piece p piece pos e z h =
     sym (drop-drop (length piece) pos p) ∙ ap (drop (length piece)) (zeros (drop pos p) z)
     ∙ drop-zeros (length piece) (length (drop pos p))
     ∙ zero-by _ _ n
-
--- a piece that stays pending
-pub stays : (k : Kept) (piece : List ℕ) → length (k .pending) ≡ 32 → wellKept k ≡ true → length piece < 32 - k .count % 32
-    → record {
-      code = k .code;
-      state = stateOf (blocksIn (widthAt (k .code)) (k .state));
-      pending = overwriteAt (k .count % 32) piece (k .pending);
-      count = k .count + length piece;
-    }
-    ≡ fed k piece
-unfolding fed pendingBytes pendingCount overwriteAt withZeros chain
-stays k piece e h n =
-    let pos : ℕ = k .count % 32 in
-    let p : List ℕ = k .pending in
-    let x : List ℕ = take pos p ++ piece in
-    let l : length x < 32 = omega (arith, length-append (take pos p) piece, length-take-le pos p (omega arith)) in
-    rw (blocks-none x l, rest-short x l, after-piece p piece pos e (unfold pendingCount in well-kept k h .after) (omega arith))
 
 -- the front and the rest of a piece that completes the pending block
 front : (p piece : List ℕ) (pos : ℕ) → List ℕ
@@ -94,32 +81,36 @@ front-rest p piece pos =
     ap (λ (l : List ℕ). take pos p ++ l) (sym (take-append-drop ((32 - pos) % 32) piece))
     ∙ sym (append-assoc (take pos p) (take ((32 - pos) % 32) piece) (drop ((32 - pos) % 32) piece))
 
--- a piece that completes the pending block
-pub completes : (k : Kept) (piece : List ℕ) → length (k .pending) ≡ 32 → 32 - k .count % 32 ≤ length piece
-    → (s : State)
-    → s ≡ stateOf (chain (widthAt (k .code)) (blocksIn (widthAt (k .code)) (k .state)) (blocks (take (k .count % 32) (k .pending) ++ take ((32 - k .count % 32) % 32) piece)))
+-- whole bytes that complete the pending block
+pub completes : (k : Kept) (piece : List ℕ) (pos : ℕ) → pos ≡ pendingCount k → length (k .pending) ≡ 32 → 8 * (bytesFed k + length piece) < limitAt (k .code)
+    → 32 - pos ≤ length piece → (s : State)
+    → s ≡ stateOf (chain (widthAt (k .code)) (blocksIn (widthAt (k .code)) (k .state)) (blocks (take pos (k .pending) ++ take ((32 - pos) % 32) piece)))
     → record {
       code = k .code;
-      state = stateOf (chain (widthAt (k .code)) (blocksIn (widthAt (k .code)) s) (blocks (drop ((32 - k .count % 32) % 32) piece)));
-      pending = overwriteAt 0 (rest (drop ((32 - k .count % 32) % 32) piece)) (replicate 32 0);
-      count = k .count + length piece;
+      odd = k .odd;
+      state = stateOf (chain (widthAt (k .code)) (blocksIn (widthAt (k .code)) s) (blocks (drop ((32 - pos) % 32) piece)));
+      pending = overwriteAt 0 (rest (drop ((32 - pos) % 32) piece)) (replicate 32 0);
+      high = highOf (k .high) (k .low) (length piece);
+      low = lowOf (k .high) (k .low) (length piece);
     }
     ≡ fed k piece
-unfolding fed pendingBytes pendingCount front
-completes k piece e n s f =
-    let w : Width = widthAt (k .code) in
-    let pos : ℕ = k .count % 32 in
+unfolding fed pendingBytes front
+completes k piece pos q e w n s f =
+    let u : Width = widthAt (k .code) in
     let p : List ℕ = k .pending in
     let y : List ℕ = front p piece pos in
     let t : List ℕ = drop ((32 - pos) % 32) piece in
-    let l : length y ≡ (pos + 31) / 32 * 32 = front-length p piece pos e (omega arith) n in
+    let l : length y ≡ (pos + 31) / 32 * 32 = front-length p piece pos e (omega (arith, pending-lt k)) n in
     rw (
+      high-sum k (length piece) w,
+      low-sum k (length piece),
+      ← q,
       front-rest p piece pos,
       blocks-append ((pos + 31) / 32) y t l,
       ← rest-feed y t,
       rest-whole ((pos + 31) / 32) y l,
       f,
-      blocks-of-chain w (blocksIn w (k .state)) (blocks y) (length-blocksIn w (k .state)),
-      ← chain-append w (blocksIn w (k .state)) (blocks y) (blocks t),
-      zero-paste (rest t),
+      blocks-of-chain u (blocksIn u (k .state)) (blocks y) (length-blocksIn u (k .state)),
+      chain-append,
+      zero-paste,
     )

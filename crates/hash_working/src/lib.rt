@@ -13,9 +13,11 @@ pub fn started(code: usize) -> Kept
     let w = codes::width(code);
     Kept {
         code: code,
+        odd: 0,
         state: rounds::start(w),
         pending: [0u8; 32],
-        count: 0,
+        high: 0,
+        low: 0,
     }
 }
 
@@ -55,8 +57,9 @@ pub fn finished_answer(k: Kept, out: &mut [u8]) -> u32
         rounds: 0,
     };
     let p = k.pending;
-    let pos = (k.count % 32) as usize;
-    let d = rounds::last::absorb_last(w, c, &p[..pos]);
+    let pos = (k.low % 32) as usize;
+    let closing = rounds::last::closing(k.odd, p[pos]);
+    let d = rounds::last::absorb_last(w, c, &p[..pos], closing);
     squeeze::squeeze(w, d, words, out);
     refusals::DONE
 }

@@ -2,8 +2,8 @@
 // them; a slice is a pointer and then a length. The three over a lent struct copy it out, have the answer worked out by value, and store the
 // struct that the answer holds; they are what a program in Rattle calls too.
 ghost use mathlib.Core.Path.{_≡_};
-ghost use Rattle.hash_definition.specs.Calls.{digestOutcome, startOutcome, feedOutcome, finishOutcome};
-ghost use Rattle.hash_definition.specs.Lent.{lentStartOutcome, lentFeedOutcome, lentFinishOutcome};
+ghost use Rattle.hash_definition.specs.Calls.{digestBitsOutcome, digestOutcome, startOutcome, feedBitsOutcome, feedOutcome, finishOutcome};
+ghost use Rattle.hash_definition.specs.Lent.{lentStartOutcome, lentFeedBitsOutcome, lentFeedOutcome, lentFinishOutcome};
 ghost use Rattle.sheet_definition.specs.SheetCalls.{buildOutcome, changeOutcome, appendOutcome, dropOutcome};
 ghost use Rattle.plan_definition.specs.Check.{verdict, answerOf};
 ghost use Rattle.brine_definition.specs.Statement.{brineOutcome};
@@ -20,6 +20,14 @@ pub extern "C" fn luffa_digest(code: usize, message: &[u8], out: &mut [u8]) -> u
     hash::digest(code, message, out)
 }
 
+// The digest of a message that may end with odd bits.
+#[no_mangle]
+pub extern "C" fn luffa_digest_bits(code: usize, message: &[u8], odd: usize, out: &mut [u8]) -> u32
+    ensures { λ r. ⌜ record { number = r; buffer = now (out .exit) } ≡ digestBitsOutcome code (now (message .entry)) odd (now (out .entry)) ⌝ }
+{
+    hash::digest_bits(code, message, odd, out)
+}
+
 // A fresh hash record at a code.
 #[no_mangle]
 pub extern "C" fn luffa_start(code: usize, record: &mut [u8]) -> u32
@@ -34,6 +42,14 @@ pub extern "C" fn luffa_feed(record: &mut [u8], piece: &[u8]) -> u32
     ensures { λ r. ⌜ record { number = r; buffer = now («record» .exit) } ≡ feedOutcome (now («record» .entry)) (now (piece .entry)) ⌝ }
 {
     hash::feed(record, piece)
+}
+
+// A piece that may end with odd bits, fed to a hash record.
+#[no_mangle]
+pub extern "C" fn luffa_feed_bits(record: &mut [u8], piece: &[u8], odd: usize) -> u32
+    ensures { λ r. ⌜ record { number = r; buffer = now («record» .exit) } ≡ feedBitsOutcome (now («record» .entry)) (now (piece .entry)) odd ⌝ }
+{
+    hash::feed_bits(record, piece, odd)
 }
 
 // The digest of what a hash record was fed.
@@ -55,15 +71,32 @@ pub extern "C" fn luffa_hash_start(code: usize, hash: &mut Kept) -> u32
     a.number
 }
 
-// A piece fed to a working state, which is altered where it stands.
+// A piece that may end with odd bits, fed to a working state, which is altered where it stands: of a piece that completes no block only what it
+// alters is stored.
+#[no_mangle]
+pub extern "C" fn luffa_hash_feed_bits(hash: &mut Kept, piece: &[u8], odd: usize) -> u32
+    ensures { λ r. ⌜ record { number = r; kept = now (hash .exit) } ≡ lentFeedBitsOutcome (now (hash .entry)) (now (piece .entry)) odd ⌝ }
+{
+    let v = *hash;
+    let s = hash_pieces::short_answer(v, piece, odd);
+    if s.stays {
+        hash.odd = s.held.odd;
+        hash.pending = s.held.pending;
+        hash.high = s.held.high;
+        hash.low = s.held.low;
+        return s.number;
+    }
+    let a = hash_pieces::fed_answer(v, piece, odd);
+    *hash = a.kept;
+    a.number
+}
+
+// The same of a piece of whole bytes.
 #[no_mangle]
 pub extern "C" fn luffa_hash_feed(hash: &mut Kept, piece: &[u8]) -> u32
     ensures { λ r. ⌜ record { number = r; kept = now (hash .exit) } ≡ lentFeedOutcome (now (hash .entry)) (now (piece .entry)) ⌝ }
 {
-    let v = *hash;
-    let a = hash_pieces::fed_answer(v, piece);
-    *hash = a.kept;
-    a.number
+    luffa_hash_feed_bits(hash, piece, 0)
 }
 
 // The digest of what a working state was fed.

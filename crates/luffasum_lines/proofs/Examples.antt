@@ -11,9 +11,8 @@ use Rattle.definition.specs.Word.{bytesOf, bytesOfAll}
 use Rattle.definition.specs.Buffer.{joined}
 use Rattle.definition.proofs.Cases.{same→eq}
 use Rattle.definition.proofs.Vectors.{abc, luffa-224, luffa-256, luffa-384, luffa-512}
-use Rattle.hash_definition.specs.Record.{limit}
 use Rattle.luffasum_lines.specs.declared.End.the-variants.{Whole}
-use Rattle.luffasum_lines.specs.Text.{startedRecords, program}
+use Rattle.luffasum_lines.specs.Text.{limit, startedRecords, program}
 use Rattle.luffasum_lines.proofs.Program.{prints-lines, prints-four}
 use Rattle.luffasum_lines.specs.Line.{digit, decimalBefore, decimal, hexadecimal, line, messageLine, fourLines}
 

@@ -9,7 +9,7 @@ use borrow.Author.Tests.{eq-eqb, ne-eqb, le-leb, not-false}
 use lib.Dec.{leb}
 use lib.ListN.{length, take, length-take, length-append}
 use lib.Seq.{take-append-le}
-use Rattle.definition.specs.Luffa.{wordsAt, bytesAt, digestOf, digestOfBits, digestAfter}
+use Rattle.definition.specs.Luffa.{wordsAt, bytesAt, digestOf, digestOfBits}
 use Rattle.definition.specs.Buffer.{overwriteAt, overwrite}
 use Rattle.definition.specs.Refusal.{RECORD, LONG, pick, firstOf, conditionOf, whenDone}
 use Rattle.definition.proofs.Refusals.{fails, not-done}
@@ -30,7 +30,7 @@ use Rattle.luffasum_lines.proofs.Lines.{length-line}
 
 -- a digest has its code's bytes
 pub length-finished : (k : Kept) → length (finished k) ≡ bytesAt (k .code)
-unfolding finished digestAfter digestOfBits digestOf bytesAt
+unfolding finished digestOfBits digestOf bytesAt
 length-finished k = length-bytes _ ∙ ap (λ (n : ℕ). 4 * n) (length-final _ (wordsAt (k .code)) _)
 
 -- a record judged by refusal 3 alone
@@ -57,7 +57,7 @@ module _ (code c : ℕ) (k : Kept) where
   elsewhere e h = rw (e, ne-eqb (k .code) c h)
 
   -- a line
-  pub held : wellKept k ≡ true → k .code ≡ c → recordLine code c k ≡ line code (k .count) (take (bytesAt code) (finished k))
+  pub held : wellKept k ≡ true → k .code ≡ c → recordLine code c k ≡ line code (k .low) (take (bytesAt code) (finished k))
   unfolding recordLine heldAt
   held e h = rw (e, eq-eqb (k .code) c h)
 
@@ -67,9 +67,9 @@ module _ (code c : ℕ) (k : Kept) where
   unfolding overwriteAt
   front e h out = take-append-le (bytesAt code) (finished k) _ (omega (arith, length-finished k, ap bytesAt e))
 
-  length-held : (b : Bool) → length (cond b (line code (k .count) (take (bytesAt code) (finished k))) []) ≤ 24 + 2 * bytesAt code
+  length-held : (b : Bool) → length (cond b (line code (k .low) (take (bytesAt code) (finished k))) []) ≤ 24 + 2 * bytesAt code
   length-held true =
-      omega (arith, length-line code (k .count) (take (bytesAt code) (finished k)), length-decimal (k .count), length-take (bytesAt code) (finished k))
+      omega (arith, length-line code (k .low) (take (bytesAt code) (finished k)), length-decimal (k .low), length-take (bytesAt code) (finished k))
   length-held false = omega arith
 
   pub length-record : length (recordLine code c k) ≤ 24 + 2 * bytesAt code

@@ -1,6 +1,6 @@
 -- What the digest program prints of the records that it fed: document 01, "reads standard input to its end and prints four lines", "A read that
 -- would pass the limit prints `4` alone; if a read fails, nothing is printed".
-use Prim.Native.Nat.{ℕ}
+use Prim.Native.Nat.{ℕ, _-_, _^_}
 use mathlib.Core.Bool.{Bool, cond, _&&_}
 use mathlib.Core.List.{List, [], _∷_, _++_}
 use lib.Dec.{eqb, leb}
@@ -17,13 +17,18 @@ use Rattle.luffasum_lines.specs.declared.End.the-variants.{Whole, Failed
 use Rattle.luffasum_lines.specs.declared.Records.{Records}
 use Rattle.luffasum_lines.specs.Line.{lineEnd, digit, line}
 
+-- "the limit": what is read is digested at every code, and at 1 and 2 a message has fewer than 2^64 bits: "whole bytes, at most 2^61 - 1 of them"
+abbrev pub limit : ℕ
+limit = 2 ^ 61 - 1
+
 -- well formed, and held at code c
 unfoldable pub heldAt : (c : ℕ) → Kept → Bool
 heldAt c k = wellKept k && eqb (k .code) c
 
--- the line at a code, of what is held at code c: its own count, and as much of its digest as the code's has; no line of what isn't held so
+-- the line at a code, of what is held at code c: its own count, and as much of its digest as the code's has; no line of what isn't held so.
+-- The count within the limit is below 2^61, so its low word is all of it.
 unfoldable pub recordLine : (code c : ℕ) → Kept → List ℕ
-recordLine code c k = cond (heldAt c k) (line code (k .count) (take (bytesAt code) (finished k))) []
+recordLine code c k = cond (heldAt c k) (line code (k .low) (take (bytesAt code) (finished k))) []
 
 -- "one for each code from 1 to 4"
 unfoldable pub fourRecords : Records → List ℕ

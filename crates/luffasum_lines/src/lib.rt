@@ -101,7 +101,7 @@ fn put_record(out: &mut [u8], i: usize, code: u8, c: usize, k: Kept) -> usize
     let mut digest = [0u8; 64];
     hash_working::finished_answer(k, &mut digest);
     let n = 4 * codes::words(code as usize);
-    put_line(out, i, code, k.count, &digest[..n])
+    put_line(out, i, code, k.low, &digest[..n])
 }
 
 // The four lines in front of a buffer, and their bytes.
@@ -160,9 +160,9 @@ fn together(number: u32, two: Kept, three: Kept, four: Kept) -> Records
 fn feed_each(r: Records, read: &[u8]) -> Records
     ensures { λ s. ⌜ s ≡ fedEach r (now (read .entry)) ⌝ }
 {
-    let a = hash_pieces::fed_answer(r.two, read);
-    let b = hash_pieces::fed_answer(r.three, read);
-    let c = hash_pieces::fed_answer(r.four, read);
+    let a = hash_pieces::fed_answer(r.two, read, 0);
+    let b = hash_pieces::fed_answer(r.three, read, 0);
+    let c = hash_pieces::fed_answer(r.four, read, 0);
     together(
         refusals::first(a.number, refusals::first(b.number, c.number)),
         a.kept,

@@ -30,6 +30,8 @@ pub const STALE: u32 = 11;
 
 pub const BATCH: u32 = 13;
 
+pub const ODD: u32 = 17;
+
 pub const LIST: u32 = 25;
 
 // A refusal judged: its number where its condition holds, else 0.

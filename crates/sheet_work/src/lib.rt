@@ -47,7 +47,7 @@ pub fn work_on(
     }
     let at = GROUP * last;
     let end = sheet_definition::RECORD * n;
-    let d = rounds::last::absorb_last(w, c, &sheet[at..end]);
+    let d = rounds::last::absorb_last(w, c, &sheet[at..end], rounds::last::CLOSING);
     let e = squeeze::squeeze(w, d, codes::words(code), out);
     e.rounds
 }

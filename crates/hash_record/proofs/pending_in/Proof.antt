@@ -18,7 +18,7 @@ unfolding decode
 returns c =
     let start = c .before .before .before in
     let b = now (start .args .b) in
-    let h : length b ≡ 208 = start .pre in
+    let h : length b ≡ 216 = start .pre in
     let n : 32 ≤ length (drop 168 b) = omega (arith, length-drop 168 b) in
     c .pasted .ensures ∙ write-at _ _ _ (omega (arith, length-take-le 32 (drop 168 b) n)) ∙ all-written (take 32 (drop 168 b)) (replicate 32 0) (length-take-le 32 (drop 168 b) n)
 

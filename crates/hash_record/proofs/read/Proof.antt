@@ -1,22 +1,12 @@
 -- `hash_record::read` meets its contract: the length and the reserved bytes are tested, and then the record is read.
 -- Assumes nothing.
-use mathlib.Core.Path.{_≡_, sym, _∙_}
-use denote.Ref.{now}
+use mathlib.Core.Path.{sym, _∙_}
 use borrow.Author.Needs.{needs}
 use borrow.Author.Tests.{eq-eqb, ne-eqb, not-true, not-false}
-use lib.ListN.{take, drop}
 use Rattle.definition.specs.Refusal.{pick}
-use Rattle.hash_definition.specs.Record.{allZero}
 use Rattle.hash_record.specs.Reading.{framed, reading}
 use Rattle.hash_record.proofs.read.Statement.{statement}
 use Rattle.hash_record.proofs.read.Tie as tie
-
-abbrev start : tie.After-all-zero → tie.Start
-start c = c .before .before .before .before
-
--- the seven bytes after the code are what is tested
-reserved : (c : tie.After-all-zero) → c .all-zero .result ≡ allZero (take 7 (drop 1 (now (start c .args .b))))
-reserved c = c .all-zero .ensures
 
 returns : tie.Need-returns
 unfolding reading pick framed
@@ -25,14 +15,14 @@ returns c = rw (ne-eqb _ _ (c .before .if1 .taken)) (c .nothing .ensures)
 returns-2 : tie.Need-returns-2
 unfolding reading pick framed
 returns-2 c =
-    let a = c .before .before in
-    rw (eq-eqb _ _ (a .before .before .if1 .left), sym (reserved a) ∙ not-true _ (c .before .if2 .taken)) (c .nothing2 .ensures)
+    let z = c .before .before in
+    rw (eq-eqb _ _ (z .before .if1 .left), sym (z .reserved-zero .ensures) ∙ not-true _ (c .before .if2 .taken)) (c .nothing2 .ensures)
 
 returns-3 : tie.Need-returns-3
 unfolding reading pick framed
 returns-3 c =
-    let a = c .before .before in
-    rw (eq-eqb _ _ (a .before .before .if1 .left), sym (reserved a) ∙ not-false _ (c .before .if2 .left)) (c .decode .ensures)
+    let z = c .before .before in
+    rw (eq-eqb _ _ (z .before .if1 .left), sym (z .reserved-zero .ensures) ∙ not-false _ (c .before .if2 .left)) (c .decode .ensures)
 
 pub read-spec : {M : Type 1} → statement M
 read-spec =
@@ -40,10 +30,7 @@ read-spec =
     (tie.spec
     (λ c κs. tt)
     returns
-    (λ c. search needs)
-    (λ c. search needs)
-    (λ c. search needs)
-    (λ c κs. tt)
+    (λ c κs. search needs)
     (λ c κs. tt)
     returns-2
     (λ c κs. search needs)

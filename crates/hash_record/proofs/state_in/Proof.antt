@@ -19,7 +19,7 @@ returns c =
     let d1 = d2 .before .before in
     let start = d1 .before .before .before in
     let b = now (start .args .b) in
-    let h : length b ≡ 208 = start .pre in
+    let h : length b ≡ 216 = start .pre in
     λ i. record {
       h0 = (d1 .block .ensures ∙ part-block b 8 (omega arith)) i;
       h1 = (d2 .block2 .ensures ∙ part-block b 40 (omega arith)) i;

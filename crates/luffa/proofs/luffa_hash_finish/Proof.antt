@@ -17,7 +17,7 @@ use ghost.Atoms.{Atoms, sem}
 use contract.Monad.{Fun, fact}
 use contract.Running.{givenOf, tables, tablesOf}
 use types.Kit.{Given, ‵, raw, _⊛_, ⋆, some, later, _$_, _∵_, !, qed, by, move, keep, drop, use1, use2, split, join, pick, fsplit, fsplit3, fjoin, fjoin3, feqL, feqI, suffices, frame, await, done}
-use types.Run.{look, look-raw, init, forget, stop, hop, fld, from, load, addr, of-opd, and-then, no-more, assigns, land, returns, enter, alloc1, alloc0, params1, pass1, pass0, free1, free0}
+use types.Run.{look, look-raw, init, forget, stop, hop, fld, from, load, addr, of-opd, and-then, no-more, assigns, land, returns, enter, alloc1, alloc0, params1, pass1, pass0}
 use types.Part.{agg, whole, sub, look-in}
 use sound.WpLaws.{FmC, fmOf, WpFn-mono}
 use denote.RattleType.{owns}
@@ -48,6 +48,7 @@ use Rattle.hash_working.proofs.finished_answer as answer
 use Rattle.hash_working.proofs.finished_answer.Symbol as answer-def
 use Rattle.hash_working.proofs.finished_answer.Symbol.{name as #answer}
 use Rattle.hash_working.proofs.finished_answer.Met as answer-thm
+use Rattle.luffa.proofs.Borrowed.{mach, Well, freed}
 use Rattle.luffa.proofs.luffa_hash_finish.Key.{name as #finish}
 use Rattle.luffa.proofs.luffa_hash_finish as finish
 use Rattle.luffa.proofs.luffa_hash_finish.Statement as stated
@@ -67,10 +68,7 @@ module _ {M : Type 1} (𝓤 : URA M) (H : Heap 𝓤) (A : Atoms 𝓤) (W : Given
   abbrev x : Arg
   x = (record { ptr = (b, o); name = γ; now = h }, (p, tt))
 
-  -- the machine values of the struct and of the slice
-  abbrev mach : Val
-  mach = LL.val K.the-type K′.the-laws h
-
+  -- the machine value of the slice
   abbrev s : Val
   s = sliceVal (p .ptr) (length (p .now))
 
@@ -85,12 +83,12 @@ module _ {M : Type 1} (𝓤 : URA M) (H : Heap 𝓤) (A : Atoms 𝓤) (W : Given
 
   -- what the callee's triple binds outside: the buffer's own lifetime, share and value
   abbrev to : Answers 𝓤 H A at-mem run .Ghost
-  to = (((κ′, tt), (q′, tt), tt, (h, (p, tt)), (mach ∷ [], (s ∷ [], tt))), tt)
+  to = (((κ′, tt), (q′, tt), tt, (h, (p, tt)), (mach h ∷ [], (s ∷ [], tt))), tt)
 
-  goes : Is K.the-row h (mach ∷ []) → ent 𝓤 (sep 𝓤 (sep 𝓤 (A .lft κ′ q′) (sem 𝓤 H A ftrue)) (sem 𝓤 H A Slice)) (Answers 𝓤 H A at-mem run .pre to)
-  goes was =
+  goes : Well h → ent 𝓤 (sep 𝓤 (sep 𝓤 (A .lft κ′ q′) (sem 𝓤 H A ftrue)) (sem 𝓤 H A Slice)) (Answers 𝓤 H A at-mem run .pre to)
+  goes well =
       qed W ((‵ (flft κ′ q′) ⊛ ‵ ftrue) ∷ ‵ Slice ∷ []) ∵ nothing ! $ move ! (2 ∷ 0 ∷ []) $ fjoin ! $
-      owned ! K.the-row (Is K.the-row) (LL.makes K.the-type K′.the-plain 𝓤 H A) h _ was $ fjoin ! $ move ! (1 ∷ 0 ∷ []) $ join ! $ frame ! $ done !
+      owned ! K.the-row (Is K.the-row) (LL.makes K.the-type K′.the-plain 𝓤 H A) h _ well $ fjoin ! $ move ! (1 ∷ 0 ∷ []) $ join ! $ frame ! $ done !
 
   -- what the callee ensures, at the buffer's last bytes
   abbrev Said : ℕ → List ℕ → Type 0
@@ -112,14 +110,14 @@ module _ {M : Type 1} (𝓤 : URA M) (H : Heap 𝓤) (A : Atoms 𝓤) (W : Given
         move ! (13 ∷ []) $ fsplit ! $ fsplit3 ! $ drop ! $ move ! (15 ∷ []) $ split ! $ move ! (3 ∷ 0 ∷ []) $
         looks ! tt K.the-row (Is K.the-row) (shows 𝓤 H A K.the-row) (LL.vals K.the-type K′.the-laws) (LL.tells K.the-type K′.the-laws) (LL.copy K.the-type K′.the-copy 𝓤 H A W) h b o (λ t vs.
         spelt ! K.the-row (Is K.the-row) (shows 𝓤 H A K.the-row) (LL.vals K.the-type K′.the-laws) (LL.tells K.the-type K′.the-laws) t h vs b o $
-        move ! (1 ∷ []) $ peeks ! K.the-row (Is K.the-row) (shows 𝓤 H A K.the-row) h (mach ∷ []) (λ was. move ! (1 ∷ 0 ∷ []) $
+        move ! (1 ∷ []) $ peeks ! K.the-row (Is K.the-row) (shows 𝓤 H A K.the-row) h (mach h ∷ []) (λ well. move ! (1 ∷ 0 ∷ []) $
         -- [a share of the struct's cell; what it owns; what shuts it; the shared borrow; the buffer's token; res; what the buffer owns; _5; …; _4; …; _3; …; _2; …; _1; …; room for _0; …]
-        assigns ! (of-opd ! (load ! (from ! (hop ! (look ! 15 refl) (stop !))) (look-raw ! 0 refl))) (from ! (stop !)) (init ! 11 refl (LL.lawful K.the-type K′.the-laws 𝓤 H A W .typed h _ was .0)) $
-        shuts ! tt K.the-row t h (mach ∷ []) b o $
+        assigns ! (of-opd ! (load ! (from ! (hop ! (look ! 15 refl) (stop !))) (look-raw ! 0 refl))) (from ! (stop !)) (init ! 11 refl (LL.lawful K.the-type K′.the-laws 𝓤 H A W .typed h _ well .0)) $
+        shuts ! tt K.the-row t h (mach h ∷ []) b o $
         -- [the struct's token; the shared borrow; the buffer's token; res; what the buffer owns; _5; …; _4; …; _3; …; _2; …; _1; …; room for _0; …]
         assigns ! (addr ! (from ! (fld ! refl (hop ! (look-in ! 11 (sub ! 0 refl (whole !))) (stop !))))) (from ! (stop !)) (init ! 7 refl (tt, tt)) $
         assigns ! (agg ! (and-then ! (load ! (from ! (stop !)) (look ! 7 refl)) (and-then ! (load ! (from ! (fld ! refl (stop !))) (look-in ! 11 (sub ! 1 refl (whole !)))) (no-more !)))) (from ! (stop !)) (init ! 5 refl (tt, (tt, (record { fits = slice .0 .1 .0 }, tt)))) $
-        move ! (4 ∷ []) $ fsplit ! $ move ! (4 ∷ 0 ∷ []) $ use2 W (raw (Answers 𝓤 H A at-mem run .pre to)) (goes was) $
+        move ! (4 ∷ []) $ fsplit ! $ move ! (4 ∷ 0 ∷ []) $ use2 W (raw (Answers 𝓤 H A at-mem run .pre to)) (goes well) $
         calls-at ! fm (Answers 𝓤 H A at-mem run) known to (and-then ! (load ! (from ! (stop !)) (look ! 9 refl)) (and-then ! (load ! (from ! (stop !)) (look ! 5 refl)) (no-more !))) (λ w.
         use1 W (later (some (λ (r : ℕ). ((‵ (flft κ′ q′) ⊛ ‵ ftrue) ⊛ ‵ (u32 .own r (w ∷ []))) ⊛ raw (ensured 𝓤 H A answer.ended (answer.clauses 𝓤 H A at-mem run) (κ′, tt) (h, (p, tt)) tt r)))) (id⊢ 𝓤 _) $ await ! tt $ pick ! (λ r.
         -- what the callee ensures, at some last bytes
@@ -130,8 +128,7 @@ module _ {M : Type 1} (𝓤 : URA M) (H : Heap 𝓤) (A : Atoms 𝓤) (W : Given
         -- [the result; the buffer's token; the last bytes; true; true; the struct's token; the shared borrow; res; _5; …; _4; …; _3; …; _2; …; _1; …; room for _0; …]
         land ! (from ! (stop !)) (init ! 18 refl (uint-lawful 𝓤 H A W w32 .typed r _ is .0)) $
         returns ! (look ! 18 refl) $ forget ! 8 refl $ forget ! 10 refl $ forget ! 12 refl $ forget ! 14 refl $ forget ! 16 refl $ forget ! 18 refl $
-        move ! (18 ∷ 19 ∷ []) $ free1 ! $ move ! (16 ∷ 17 ∷ []) $ free1 ! $ move ! (14 ∷ 15 ∷ []) $ free1 ! $ move ! (12 ∷ 13 ∷ []) $ free1 ! $ move ! (10 ∷ 11 ∷ []) $ free1 ! $ move ! (8 ∷ 9 ∷ []) $ free1 ! $ free0 ! $
-        keep ! (5 ∷ 1 ∷ 7 ∷ 6 ∷ 2 ∷ 0 ∷ []) $ by ! (exits r w (zs .1 .0) e l)))))))))))))))
+        keep ! (18 ∷ 19 ∷ 16 ∷ 17 ∷ 14 ∷ 15 ∷ 12 ∷ 13 ∷ 10 ∷ 11 ∷ 8 ∷ 9 ∷ 5 ∷ 1 ∷ 7 ∷ 6 ∷ 2 ∷ 0 ∷ []) $ freed ! _ $ by ! (exits r w (zs .1 .0) e l)))))))))))))))
 
 module _ {M : Type 1} (𝓤 : URA M) (H : Heap 𝓤) (A : Atoms 𝓤) (W : Given 𝓤 H A) (at-mem : Memory → SProp 𝓤) (run : Routine → Fun 𝓤) where
   finish-walks : (C : Calls 𝓤 H) (Λ : Loops 𝓤 H) → FmC 𝓤 H (W .laws) C → Triple 𝓤 (C #answer) (Answers 𝓤 H A at-mem run) → Walks 𝓤 H A finish.ended stayed (WpFn 𝓤 H C Λ code.function) (finish.clauses 𝓤 H A at-mem run)

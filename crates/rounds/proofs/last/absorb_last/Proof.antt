@@ -8,7 +8,7 @@ use denote.Ref.{now}
 use borrow.Author.Needs.{needs}
 use lib.ListN.{length, drop, length-drop}
 use Rattle.definition.specs.Block.{blockOf}
-use Rattle.definition.specs.Padding.{closing, padding, blocks, rest, lastBlock}
+use Rattle.definition.specs.Padding.{padding, blocks, rest, lastBlock}
 use Rattle.definition.proofs.Padding.{blocks-padded}
 use Rattle.definition.proofs.Chain.{counted-append}
 use Rattle.bytes.proofs.Parts.{part-rest}
@@ -21,9 +21,9 @@ absorb-padded-requires c κs =
     let n = length s / 32 * 32 in
     rw (part-rest n s) (omega (arith, length-drop n s))
 
-ending : (s t : List ℕ) → t ≡ drop (length s / 32 * 32) s → blockOf (t ++ padding closing (length t)) ≡ lastBlock closing s
+ending : (s t : List ℕ) (byte : ℕ) → t ≡ drop (length s / 32 * 32) s → blockOf (t ++ padding byte (length t)) ≡ lastBlock byte s
 unfolding lastBlock rest padding
-ending s t e =
+ending s t byte e =
     let m : length t % 32 ≡ length s % 32 = omega (arith, ap length e, length-drop (length s / 32 * 32) s) in
     rw (m, e)
 
@@ -32,8 +32,8 @@ returns c =
     let a = c .before .before .before .before .args in
     let s = now (a .s) in
     c .absorb-padded .ensures
-    ∙ rw (ending s _ (part-rest (length s / 32 * 32) s), c .before .before .absorb .ensures, blocks-padded closing s)
-    (sym (counted-append (a .w) (a .c) (blocks s) (lastBlock closing s ∷ [])))
+    ∙ rw (ending s _ (a .closing) (part-rest (length s / 32 * 32) s), c .before .before .absorb .ensures, blocks-padded (a .closing) s)
+    (sym (counted-append (a .w) (a .c) (blocks s) (lastBlock (a .closing) s ∷ [])))
 
 pub absorb-last-spec : {M : Type 1} → statement M
 absorb-last-spec =

@@ -1,0 +1,2 @@
+-- What a piece that completes no block alters.
+pub mod Short

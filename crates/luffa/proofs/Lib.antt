@@ -1,0 +1,2 @@
+-- What the walks over a lent working state share.
+pub mod Borrowed
