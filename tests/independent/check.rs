@@ -6,7 +6,7 @@
 
 use crate::luffa::*;
 use crate::sheet::{Record, Saved, Sheet, MARK_WORDS, MOST};
-use crate::{check_brine, check_plan};
+use crate::{check_bits, check_brine, check_plan};
 use std::fmt::Debug;
 
 /// The hash values of "abc" (Appendix C).
@@ -103,7 +103,7 @@ impl Report {
 }
 
 /// Numbers to try things on, the same in every run (xorshift).
-struct Numbers(u64);
+pub struct Numbers(u64);
 
 impl Numbers {
     fn next(&mut self) -> u32 {
@@ -134,6 +134,7 @@ pub fn differences() -> Vec<String> {
     sheet_rounds(&mut report, numbers);
     sheet_marks(&mut report, numbers);
     sheet_saves(&mut report, numbers);
+    check_bits::differences(&mut report, numbers);
     check_plan::differences(&mut report);
     check_brine::differences(&mut report);
     report.0
@@ -342,11 +343,11 @@ fn injection(report: &mut Report, numbers: &mut Numbers) {
     }
 }
 
-fn message(numbers: &mut Numbers, length: usize) -> Vec<u8> {
+pub fn message(numbers: &mut Numbers, length: usize) -> Vec<u8> {
     (0..length).map(|_| numbers.next() as u8).collect()
 }
 
-fn fed<'a>(w: usize, pieces: impl IntoIterator<Item = &'a [u8]>) -> Luffa {
+pub fn fed<'a>(w: usize, pieces: impl IntoIterator<Item = &'a [u8]>) -> Luffa {
     let mut hash = Luffa::new(w);
     pieces.into_iter().for_each(|piece| hash.update(piece));
     hash

@@ -347,7 +347,7 @@ impl Luffa {
     }
 
     /// Every round is run here, and counted.
-    fn round(&mut self, m: &Block) {
+    pub fn round(&mut self, m: &Block) {
         self.tables.round(&mut self.h[..self.w], m);
         self.rounds += 1;
     }

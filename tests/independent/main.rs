@@ -1,10 +1,13 @@
 //! A separately written Luffa program, to compare another one with. The hash is in luffa.rs; the
 //! four output lines are those of the digest program in the build requirements, `words` gives the
-//! longer outputs of section 5 of the Luffa specification 2.0.1, `plan` is the check of a sheet's
-//! content, and `brine` the brine statement over a batch of sheets.
+//! longer outputs of section 5 of the Luffa specification 2.0.1, `bits` takes a message that stops
+//! inside a byte, `plan` is the check of a sheet's content, and `brine` the brine statement over a
+//! batch of sheets.
 
+mod bits;
 mod brine;
 mod check;
+mod check_bits;
 mod check_brine;
 mod check_plan;
 mod luffa;
@@ -22,6 +25,7 @@ use std::process::ExitCode;
 const USAGE: &str = "\
 usage: independent               four digest lines for standard input
        independent words CODE N  the first N words of the final stage, and its blank rounds
+       independent bits N        four digest lines for the first N bits of standard input
        independent pieces        a digest for each line `CODE HEX` of standard input
        independent plan          whether the records on standard input are a sound sheet
        independent brine COUNT.. the brine statement over sheets of so many records each
@@ -38,6 +42,10 @@ fn main() -> ExitCode {
         ["words", code, n] => match (code_of(code.as_bytes()), n.parse()) {
             (Some(code), Ok(n)) if n >= 1 => final_words(code, n),
             _ => return usage(),
+        },
+        ["bits", n] => match n.parse() {
+            Ok(n) => bit_lines(n),
+            Err(_) => return usage(),
         },
         ["pieces"] => pieces(),
         ["plan"] => plan_fault(),
@@ -137,6 +145,23 @@ fn final_words(code: usize, n: usize) -> io::Result<ExitCode> {
     }
     let (z, blank_rounds) = hash[0].finish(n);
     print(&format!("{}\n{blank_rounds}\n", hex(&z)))?;
+    Ok(ExitCode::SUCCESS)
+}
+
+/// Fewer than 2^64 bits are a message at every code.
+fn bit_lines(n: u64) -> io::Result<ExitCode> {
+    let mut bytes = Vec::new();
+    input()?.take(n.div_ceil(8)).read_to_end(&mut bytes)?;
+    if (bytes.len() as u64) < n.div_ceil(8) {
+        eprintln!("standard input has fewer than {n} bits");
+        return Ok(ExitCode::FAILURE);
+    }
+    let mut text = String::new();
+    for code in 1..=CODES.len() {
+        let message = bits::bits_of(&bytes).take(n as usize);
+        text += &format!("{code} {n} {}\n", hex(&bits::digest(code, message)));
+    }
+    print(&text)?;
     Ok(ExitCode::SUCCESS)
 }
 
