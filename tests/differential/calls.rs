@@ -1,23 +1,12 @@
 //! Each call made twice on the same bytes, by the archive and by the model: the number answered and
-//! every byte lent, with those around it, must agree.
+//! every byte lent, with those around it, must agree. The calls over a message are in hash_calls.rs.
 
 use crate::brine_model::{self, Batch, BrineAnswer};
-use crate::model;
 use crate::plan_model::{self, ContentAnswer};
 use crate::sheet_model::{self, Answer, Call, Given};
 use std::fmt::{Debug, Write};
 
 extern "C" {
-    fn luffa_digest(
-        code: usize,
-        message: *const u8,
-        message_len: usize,
-        out: *mut u8,
-        out_len: usize,
-    ) -> u32;
-    fn luffa_start(code: usize, record: *mut u8, record_len: usize) -> u32;
-    fn luffa_feed(record: *mut u8, record_len: usize, piece: *const u8, piece_len: usize) -> u32;
-    fn luffa_finish(record: *const u8, record_len: usize, out: *mut u8, out_len: usize) -> u32;
     fn luffa_sheet_build(
         code: usize,
         sheet: *const u8,
@@ -83,7 +72,7 @@ extern "C" {
 }
 
 /// A buffer to lend, with watched bytes on both sides.
-struct Lent {
+pub struct Lent {
     all: Vec<u8>,
     before: usize,
 }
@@ -98,7 +87,7 @@ impl Lent {
     }
 
     /// Bytes at an odd address.
-    fn new(bytes: &[u8]) -> Lent {
+    pub fn new(bytes: &[u8]) -> Lent {
         Lent::after(EDGE, bytes)
     }
 
@@ -108,18 +97,18 @@ impl Lent {
     }
 
     /// Elements of N bytes, which must stand at a multiple of N.
-    fn elements<const N: usize>(elements: Vec<[u8; N]>) -> Lent {
+    pub fn elements<const N: usize>(elements: Vec<[u8; N]>) -> Lent {
         (EDGE..EDGE + N)
             .map(|before| Lent::after(before, elements.as_flattened()))
             .find(|lent| lent.all[lent.before..].as_ptr() as usize % N == 0)
             .expect("memory at a multiple")
     }
 
-    fn pointer(&mut self) -> *mut u8 {
+    pub fn pointer(&mut self) -> *mut u8 {
         self.all[self.before..].as_mut_ptr()
     }
 
-    fn inside(&self) -> &[u8] {
+    pub fn inside(&self) -> &[u8] {
         &self.all[self.before..self.all.len() - EDGE]
     }
 }
@@ -132,7 +121,7 @@ fn hex(bytes: &[u8]) -> String {
 }
 
 /// Compares numbers and buffers; `call` and the buffers as they were tell what was called.
-fn agree<T: PartialEq + Debug>(
+pub fn agree<T: PartialEq + Debug>(
     call: &str,
     before: &[&[u8]],
     got: T,
@@ -168,60 +157,6 @@ fn agree<T: PartialEq + Debug>(
 }
 
 // Each function below leaves in the buffers what both sides left there.
-
-pub fn digest(code: usize, message: &[u8], out: &mut [u8]) -> Result<u32, String> {
-    let before = out.to_vec();
-    let want = model::digest(code, message, out);
-    let (mut m, mut o) = (Lent::new(message), Lent::new(&before));
-    let got = unsafe { luffa_digest(code, m.pointer(), message.len(), o.pointer(), before.len()) };
-    let call = format!("luffa_digest at code {code}: buffer 0 the message, 1 the output");
-    agree(
-        &call,
-        &[message, &before],
-        got,
-        want,
-        &[(m, message), (o, out)],
-    )
-}
-
-pub fn start(code: usize, record: &mut [u8]) -> Result<u32, String> {
-    let before = record.to_vec();
-    let want = model::start(code, record);
-    let mut r = Lent::new(&before);
-    let got = unsafe { luffa_start(code, r.pointer(), before.len()) };
-    let call = format!("luffa_start at code {code}: buffer 0 the record");
-    agree(&call, &[&before], got, want, &[(r, record)])
-}
-
-pub fn feed(record: &mut [u8], piece: &[u8]) -> Result<u32, String> {
-    let before = record.to_vec();
-    let want = model::feed(record, piece);
-    let (mut r, mut p) = (Lent::new(&before), Lent::new(piece));
-    let got = unsafe { luffa_feed(r.pointer(), before.len(), p.pointer(), piece.len()) };
-    let call = "luffa_feed: buffer 0 the record, 1 the piece";
-    agree(
-        call,
-        &[&before, piece],
-        got,
-        want,
-        &[(r, record), (p, piece)],
-    )
-}
-
-pub fn finish(record: &[u8], out: &mut [u8]) -> Result<u32, String> {
-    let before = out.to_vec();
-    let want = model::finish(record, out);
-    let (mut r, mut o) = (Lent::new(record), Lent::new(&before));
-    let got = unsafe { luffa_finish(r.pointer(), record.len(), o.pointer(), before.len()) };
-    let call = "luffa_finish: buffer 0 the record, 1 the output";
-    agree(
-        call,
-        &[record, &before],
-        got,
-        want,
-        &[(r, record), (o, out)],
-    )
-}
 
 pub fn sheet(call: Call, given: &mut Given) -> Result<Answer, String> {
     let before = given.clone();

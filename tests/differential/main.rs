@@ -6,6 +6,9 @@ mod brine_kinds;
 mod brine_model;
 mod brines;
 mod calls;
+mod hash_calls;
+mod hash_kinds;
+mod hashes;
 mod histories;
 mod met;
 mod model;
@@ -14,6 +17,9 @@ mod plan_model;
 mod plans;
 mod sheet_model;
 
+#[path = "../independent/bits.rs"]
+#[allow(dead_code)]
+mod bits;
 #[path = "../independent/brine.rs"]
 mod brine;
 #[path = "../independent/luffa.rs"]
@@ -27,7 +33,7 @@ mod plan;
 mod sheet;
 
 use met::Met;
-use model::{digest_bytes, state_end, well_formed, COUNT, LIMIT, PENDING, RECORD, STATE};
+use model::digest_bytes;
 use std::time::SystemTime;
 
 /// Random numbers (splitmix64): seeds that follow each other give unlike ones.
@@ -89,28 +95,6 @@ impl Numbers {
         };
         self.bytes(n)
     }
-
-    /// A well-formed record with any pending bytes and any state words, at times all zero.
-    fn record(&mut self, code: usize, count: u64) -> Vec<u8> {
-        let mut record = vec![0; RECORD];
-        record[0] = code as u8;
-        if self.between(0, 7) > 0 {
-            record[STATE..state_end(code)].fill_with(|| self.next() as u8);
-        }
-        record[PENDING..PENDING + (count % 32) as usize].fill_with(|| self.next() as u8);
-        record[COUNT..].copy_from_slice(&count.to_be_bytes());
-        record
-    }
-
-    /// A count of at most the limit: small, about a power of two, about the limit, or any.
-    fn count(&mut self) -> u64 {
-        match self.between(0, 3) {
-            0 => self.next() % 200,
-            1 => (1 << self.between(6, 60)) - self.next() % 64,
-            2 => LIMIT - self.next() % 200,
-            _ => self.next() % (LIMIT + 1),
-        }
-    }
 }
 
 type Agreed = Result<(), String>;
@@ -121,136 +105,15 @@ const CASES: u64 = 8000;
 /// The plans of a case.
 const PLANS: usize = 6;
 
-/// A message at every code: in one call, and in random pieces with a finish now and then.
-fn message(numbers: &mut Numbers) -> Agreed {
-    let n = numbers.length(10_000);
-    let message = match numbers.between(0, 7) {
-        0 => vec![numbers.one_of(&[0, 0x80, 0xff]); n],
-        _ => numbers.bytes(n),
-    };
-    for code in 1..=4 {
-        calls::digest(code, &message, &mut numbers.output(code))?;
-        let mut whole = numbers.bytes(digest_bytes(code));
-        calls::digest(code, &message, &mut whole)?;
-
-        let mut record = numbers.bytes(RECORD);
-        calls::start(code, &mut record)?;
-        let mut rest = &message[..];
-        while !rest.is_empty() {
-            let (piece, after) = rest.split_at(numbers.piece(rest.len()));
-            calls::feed(&mut record, piece)?;
-            if numbers.between(0, 9) == 0 {
-                calls::finish(&record, &mut numbers.output(code))?;
-            }
-            rest = after;
-        }
-        let mut pieced = numbers.bytes(digest_bytes(code));
-        calls::finish(&record, &mut pieced)?;
-        if pieced != whole {
-            return Err(format!("{n} bytes at code {code}: pieces and whole differ"));
-        }
-    }
-    Ok(())
-}
-
-/// A well-formed record that no message need give, fed and finished.
-fn free_record(numbers: &mut Numbers) -> Agreed {
-    let code = numbers.code();
-    let count = numbers.count();
-    let mut record = numbers.record(code, count);
-    for _ in 0..numbers.between(0, 3) {
-        let n = numbers.length(300);
-        calls::feed(&mut record, &numbers.bytes(n))?;
-    }
-    calls::finish(&record, &mut numbers.output(code)).map(drop)
-}
-
-/// A record with room for some bytes more, and a piece of about as many.
-fn near_limit(numbers: &mut Numbers) -> Agreed {
-    let code = numbers.code();
-    let left = numbers.between(0, 100);
-    let mut record = numbers.record(code, LIMIT - left as u64);
-    for over in [2, 1, 0] {
-        calls::feed(&mut record, &numbers.bytes(left + over))?;
-    }
-    calls::feed(&mut record, &[])?;
-    let n = numbers.between(1, 100);
-    calls::feed(&mut record, &numbers.bytes(n))?;
-    calls::finish(&record, &mut numbers.output(code)).map(drop)
-}
-
-/// A record malformed in each way in turn, and last in some ways at once.
-fn malformed(numbers: &mut Numbers) -> Agreed {
-    let code = numbers.code();
-    let count = numbers.count();
-    let sound = numbers.record(code, count);
-    let mut worst = sound.clone();
-    for way in 0..6 {
-        let mut record = sound.clone();
-        let some = numbers.between(1, 255) as u8;
-        match way {
-            0 => record[0] = numbers.one_of(&[0, 5, some.max(5)]),
-            1 => record[numbers.between(1, STATE - 1)] = some,
-            // Code 4 leaves no word unused, so its record is called one of code 3.
-            2 if code == 4 => (record[0], record[PENDING - 4]) = (3, some),
-            2 => record[numbers.between(state_end(code), PENDING - 1)] = some,
-            3 => record[numbers.between(PENDING + (count % 32) as usize, COUNT - 1)] = some,
-            4 => {
-                // Equal modulo 32, so that only the limit is passed.
-                let over = numbers.one_of(&[1 << 61, 1 << 62, 1 << 63, 7 << 61]);
-                record[COUNT..].copy_from_slice(&(count | over).to_be_bytes());
-            }
-            _ => {
-                let n = numbers
-                    .one_of(&[0, 207, 209, 416])
-                    .min(numbers.between(0, 500));
-                record.resize(if n == RECORD { 0 } else { n }, 0);
-            }
-        }
-        if well_formed(&record) {
-            return Err(format!("way {way} leaves a record well formed"));
-        }
-        refused(numbers, record.clone())?;
-        if record.len() == RECORD && numbers.between(0, 1) == 0 {
-            for at in (0..RECORD).filter(|&at| record[at] != sound[at]) {
-                worst[at] = record[at];
-            }
-        }
-    }
-    refused(numbers, worst)
-}
-
-fn refused(numbers: &mut Numbers, mut record: Vec<u8>) -> Agreed {
-    let n = numbers.length(300);
-    calls::feed(&mut record, &numbers.bytes(n))?;
-    calls::feed(&mut record, &[])?;
-    let code = numbers.code();
-    calls::finish(&record, &mut numbers.output(code)).map(drop)
-}
-
-/// Codes and lengths of any kind.
-fn arguments(numbers: &mut Numbers) -> Agreed {
-    let low = numbers.between(0, 6);
-    let code = low | numbers.one_of(&[0, 0, 1 << 8, 1 << 16, 1 << 32, 1 << 63, usize::MAX << 3]);
-    let (m, o) = (numbers.length(200), numbers.between(0, 80));
-    calls::digest(code, &numbers.bytes(m), &mut numbers.bytes(o))?;
-    let r = numbers
-        .one_of(&[RECORD, RECORD, 207, 209])
-        .min(numbers.between(0, 1000));
-    calls::start(code, &mut numbers.bytes(r))?;
-    let mut noise = numbers.bytes(RECORD);
-    calls::feed(&mut noise, &numbers.bytes(m))?;
-    calls::finish(&noise, &mut numbers.bytes(o)).map(drop)
-}
-
 fn case(seed: u64, met: &mut Met) -> Agreed {
     let numbers = &mut Numbers(seed);
-    message(numbers)?;
-    for _ in 0..4 {
-        free_record(numbers)?;
-        near_limit(numbers)?;
-        malformed(numbers)?;
-        arguments(numbers)?;
+    hashes::message(numbers, met)?;
+    for _ in 0..3 {
+        hashes::free_record(numbers, met)?;
+        hashes::near_limit(numbers, met)?;
+        hashes::malformed(numbers, met)?;
+        hashes::malformed_struct(numbers, met)?;
+        hashes::arguments(numbers, met)?;
     }
     histories::history(numbers, met)?;
     for _ in 0..PLANS {
@@ -279,6 +142,7 @@ fn main() {
         }
     }
     let unmet = [
+        hash_kinds::print(&met),
         histories::print(&met),
         plan_kinds::print(&met),
         brine_kinds::print(&met),

@@ -1,15 +1,18 @@
-//! The calls over a message by document 01's text: from what is lent to the number answered and what
-//! the buffers then hold, refusals included. The separately written program does the hashing.
+//! The calls over a message by the texts of document 01 and of Q-7 in document 02: which refusals hold,
+//! and what is held afterwards. A message is a bit string, and a record that string's length with its
+//! last bits; the separately written program does the hashing.
 
-use crate::luffa::{self, Luffa, CODES};
-
-pub const LIMIT: u64 = (1 << 61) - 1;
+use crate::bits::{allowed, bits_of, BitLuffa};
+use crate::luffa::{Luffa, CODES};
 
 /// The record's length, and where its fields begin.
-pub const RECORD: usize = 208;
+pub const RECORD: usize = 216;
 pub const STATE: usize = 8;
 pub const PENDING: usize = 168;
 pub const COUNT: usize = 200;
+
+/// The bits after a message's last whole byte are at most so many.
+pub const MOST_ODD: usize = 7;
 
 pub fn known(code: usize) -> bool {
     (1..=4).contains(&code)
@@ -20,104 +23,178 @@ pub fn digest_bytes(code: usize) -> usize {
     4 * CODES[code - 1].1
 }
 
-/// Where the state words that a known code uses end.
-pub fn state_end(code: usize) -> usize {
-    STATE + 32 * CODES[code - 1].0
+/// The state words that a known code uses.
+pub fn state_words(code: usize) -> usize {
+    8 * CODES[code - 1].0
 }
 
-pub fn digest(code: usize, message: &[u8], out: &mut [u8]) -> u32 {
-    if !known(code) {
-        return 1;
-    }
-    if out.len() < digest_bytes(code) {
-        return 2;
-    }
-    if message.len() as u64 > LIMIT {
-        return 4;
-    }
-    put_words(&luffa::digest(code, message), out);
-    0
+/// What a record holds. It is the lent struct, as C has it.
+#[repr(C)]
+#[derive(Clone, Copy, Debug, PartialEq)]
+pub struct Hash {
+    pub code: usize,
+    pub odd: usize,
+    pub state: [u32; 40],
+    pub pending: [u8; 32],
+    pub count_high: u64,
+    pub count_low: u64,
 }
 
-pub fn start(code: usize, record: &mut [u8]) -> u32 {
-    if !known(code) {
-        return 1;
+impl Hash {
+    pub fn count(&self) -> u128 {
+        (self.count_high as u128) << 64 | self.count_low as u128
     }
-    if record.len() != RECORD {
-        return 3;
+
+    /// The message's bits so far, unless they are 2^128 or more.
+    pub fn bits(&self) -> Option<u128> {
+        self.count().checked_mul(8)?.checked_add(self.odd as u128)
     }
-    record.fill(0);
-    record[0] = code as u8;
-    put_words(&Luffa::new(CODES[code - 1].0).state(), &mut record[STATE..]);
-    0
+
+    /// Of the 256 pending bits, those that are the message's come first.
+    fn held(&self) -> usize {
+        8 * (self.count() % 32) as usize + self.odd
+    }
+
+    pub fn well_formed(&self) -> bool {
+        known(self.code)
+            && self.odd <= MOST_ODD
+            && allowed(self.code, self.bits())
+            && self.state[state_words(self.code)..]
+                .iter()
+                .all(|word| *word == 0)
+            && bits_of(&self.pending).skip(self.held()).all(|bit| !bit)
+    }
+
+    /// The hash under way that a well-formed one stands for.
+    fn under_way(&self) -> BitLuffa {
+        let mut hash = BitLuffa::after(Luffa::at(CODES[self.code - 1].0, &self.state));
+        hash.update(bits_of(&self.pending).take(self.held()));
+        hash
+    }
+
+    /// That of the empty message at a known code.
+    pub fn start(code: usize) -> Hash {
+        Hash {
+            code,
+            odd: 0,
+            state: Luffa::new(CODES[code - 1].0).state(),
+            pending: [0; 32],
+            count_high: 0,
+            count_low: 0,
+        }
+    }
+
+    /// With a piece added that isn't refused.
+    pub fn feed(&self, piece: &[u8], odd: usize) -> Hash {
+        let n = length(piece, odd);
+        let mut under_way = self.under_way();
+        under_way.update(bits_of(piece).take(n));
+        let mut pending = [0; 32];
+        for (i, _) in under_way.held.iter().enumerate().filter(|(_, bit)| **bit) {
+            pending[i / 8] |= 0x80 >> (i % 8);
+        }
+        let bits = self.bits().unwrap() + n as u128;
+        Hash {
+            code: self.code,
+            odd: (bits % 8) as usize,
+            state: under_way.hash.state(),
+            pending,
+            count_high: (bits >> 67) as u64,
+            count_low: (bits >> 3) as u64,
+        }
+    }
+
+    /// The digest of what was fed.
+    pub fn finish(&self) -> Vec<u8> {
+        bytes_of(&self.under_way().finish(CODES[self.code - 1].1))
+    }
 }
 
-pub fn feed(record: &mut [u8], piece: &[u8]) -> u32 {
-    if !well_formed(record) {
-        return 3;
+/// The bits of a message or piece whose last byte has `odd` of them, where that is 1 to 7.
+pub fn length(bytes: &[u8], odd: usize) -> usize {
+    match odd {
+        1..=MOST_ODD => (8 * bytes.len() + odd).saturating_sub(8),
+        _ => 8 * bytes.len(),
     }
-    let count = count_of(record);
-    if piece.len() as u64 > LIMIT - count {
-        return 4;
+}
+
+/// What a record's bytes hold, if it has the length and the zeros that the struct has no field for.
+pub fn read(record: &[u8]) -> Option<Hash> {
+    if record.len() != RECORD || record[2..STATE] != [0; 6] {
+        return None;
     }
-    let bytes = [held(record), piece].concat();
-    let (full, rest) = bytes.split_at(bytes.len() / 32 * 32);
-    let mut hash = hash_at(record);
-    hash.update(full);
-    put_words(&hash.state(), &mut record[STATE..]);
-    record[PENDING..COUNT].fill(0);
-    record[PENDING..PENDING + rest.len()].copy_from_slice(rest);
-    record[COUNT..].copy_from_slice(&(count + piece.len() as u64).to_be_bytes());
-    0
+    let (words, _) = record[STATE..PENDING].as_chunks();
+    let (count, _) = record[COUNT..].as_chunks();
+    Some(Hash {
+        code: record[0] as usize,
+        odd: record[1] as usize,
+        state: std::array::from_fn(|i| u32::from_be_bytes(words[i])),
+        pending: record[PENDING..COUNT].try_into().unwrap(),
+        count_high: u64::from_be_bytes(count[0]),
+        count_low: u64::from_be_bytes(count[1]),
+    })
 }
 
-pub fn finish(record: &[u8], out: &mut [u8]) -> u32 {
-    if !well_formed(record) {
-        return 3;
-    }
-    let code = record[0] as usize;
-    if out.len() < digest_bytes(code) {
-        return 2;
-    }
-    let mut hash = hash_at(record);
-    hash.update(held(record));
-    put_words(&hash.finish(CODES[code - 1].1).0, out);
-    0
+/// The bytes of a record that holds this.
+pub fn write(hash: &Hash) -> Vec<u8> {
+    let mut record = vec![hash.code as u8, hash.odd as u8, 0, 0, 0, 0, 0, 0];
+    record.extend(bytes_of(&hash.state));
+    record.extend(hash.pending);
+    record.extend(hash.count().to_be_bytes());
+    record
 }
 
-pub fn well_formed(record: &[u8]) -> bool {
-    let zeros = |from, to| record[from..to].iter().all(|b: &u8| *b == 0);
-    record.len() == RECORD
-        && known(record[0] as usize)
-        && zeros(1, STATE)
-        && zeros(state_end(record[0] as usize), PENDING)
-        && zeros(PENDING + held(record).len(), COUNT)
-        && count_of(record) <= LIMIT
+/// The refusals that hold, in the order in which they are given.
+fn holding<const N: usize>(judged: [(u64, bool); N]) -> Vec<u64> {
+    let hold = judged.into_iter().filter(|(_, holds)| *holds);
+    hold.map(|(number, _)| number).collect()
 }
 
-fn count_of(record: &[u8]) -> u64 {
-    u64::from_be_bytes(record[COUNT..].try_into().unwrap())
+/// Odd bits that no message or piece has.
+fn no_odd(bytes: &[u8], odd: usize) -> bool {
+    odd > MOST_ODD || odd > 0 && bytes.is_empty()
 }
 
-/// The pending bytes.
-fn held(record: &[u8]) -> &[u8] {
-    &record[PENDING..PENDING + (count_of(record) % 32) as usize]
+fn too_short(code: usize, out: &[u8]) -> bool {
+    known(code) && out.len() < digest_bytes(code)
 }
 
-/// The hash whose state the record has, without the pending bytes.
-fn hash_at(record: &[u8]) -> Luffa {
-    let word = |four: &[u8; 4]| u32::from_be_bytes(*four);
-    let state: Vec<u32> = record[STATE..PENDING]
-        .as_chunks()
-        .0
-        .iter()
-        .map(word)
-        .collect();
-    Luffa::at(CODES[record[0] as usize - 1].0, &state)
+pub fn digest_refusals(code: usize, message: &[u8], odd: usize, out: &[u8]) -> Vec<u64> {
+    let bits = length(message, odd) as u128;
+    holding([
+        (1, !known(code)),
+        (2, too_short(code, out)),
+        (17, no_odd(message, odd)),
+        (4, known(code) && !allowed(code, Some(bits))),
+    ])
 }
 
-pub fn put_words(words: &[u32], to: &mut [u8]) {
-    for (word, four) in words.iter().zip(to.chunks_exact_mut(4)) {
-        four.copy_from_slice(&word.to_be_bytes());
-    }
+pub fn start_refusals(code: usize, record_len: usize) -> Vec<u64> {
+    holding([(1, !known(code)), (3, record_len != RECORD)])
+}
+
+/// None is a record that can't be read.
+pub fn feed_refusals(hash: Option<&Hash>, piece: &[u8], odd: usize) -> Vec<u64> {
+    let bits = |hash: &Hash| hash.bits()?.checked_add(length(piece, odd) as u128);
+    let over = |hash: &Hash| known(hash.code) && !allowed(hash.code, bits(hash));
+    holding([
+        (3, !hash.is_some_and(Hash::well_formed)),
+        (
+            17,
+            no_odd(piece, odd) || hash.is_some_and(|hash| hash.odd > 0),
+        ),
+        (4, hash.is_some_and(over)),
+    ])
+}
+
+pub fn finish_refusals(hash: Option<&Hash>, out: &[u8]) -> Vec<u64> {
+    holding([
+        (3, !hash.is_some_and(Hash::well_formed)),
+        (2, hash.is_some_and(|hash| too_short(hash.code, out))),
+    ])
+}
+
+/// Words as bytes, the highest byte of each first.
+pub fn bytes_of(words: &[u32]) -> Vec<u8> {
+    words.iter().flat_map(|word| word.to_be_bytes()).collect()
 }

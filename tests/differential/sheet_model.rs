@@ -2,7 +2,7 @@
 //! hold, refusals included. Marks are taken as they are found, true or false.
 
 use crate::luffa::{Luffa, CODES};
-use crate::model::{digest_bytes, known, put_words};
+use crate::model::{bytes_of, digest_bytes, known};
 use crate::sheet::{MARK_WORDS, MOST, RECORD_BYTES};
 
 #[derive(Clone, Copy, Debug, PartialEq)]
@@ -99,9 +99,7 @@ fn work(code: usize, sheet: &[u8], n: usize, marks: &mut [u32], m: usize) -> (Ve
     let last = hash.padded();
     let rounds = last.rounds;
     let (z, blank_rounds) = last.final_stage(count);
-    let mut digest = vec![0; 4 * count];
-    put_words(&z, &mut digest);
-    (digest, rounds + blank_rounds)
+    (bytes_of(&z), rounds + blank_rounds)
 }
 
 /// The digest of the sheet held, from its last mark as found, and the rounds. Nothing is written.

@@ -6,12 +6,17 @@ use crate::luffa::{Block, Luffa, CODES};
 /// The bits of a message block.
 pub const BLOCK: usize = 256;
 
-/// Table 1: whether a message of so many bits has a hash value at the code. None is 2^128 or more.
-pub fn allowed(code: usize, bits: Option<u128>) -> bool {
+/// The most bits of a message at a code (Table 1).
+pub fn most_bits(code: usize) -> u128 {
     match code {
-        1 | 2 => bits.is_some_and(|bits| bits < 1 << 64),
-        _ => bits.is_some(),
+        1 | 2 => (1 << 64) - 1,
+        _ => u128::MAX,
     }
+}
+
+/// Whether a message may have so many bits; none given are 2^128 or more.
+pub fn allowed(code: usize, bits: Option<u128>) -> bool {
+    bits.is_some_and(|bits| bits <= most_bits(code))
 }
 
 /// The bits of bytes, the highest of each first (2.2).
