@@ -3,8 +3,8 @@
 # compiling are rt's; here is only linking and copying.
 
 PREFIX ?= /usr/local
-VERSION := 1.0.0
-SONAME := libluffa.so.1
+VERSION := 2.0.0
+SONAME := libluffa.so.2
 
 # rt compiles for x86-64 alone: on another processor the compiler that links is one for x86-64.
 GCC := $(if $(filter x86_64,$(shell uname -m)),gcc,x86_64-linux-gnu-gcc)

@@ -10,11 +10,12 @@
 
 HOLDS(LUFFA_224 == 1 && LUFFA_256 == 2 && LUFFA_384 == 3 && LUFFA_512 == 4);
 HOLDS(LUFFA_224_BYTES == 28 && LUFFA_256_BYTES == 32 && LUFFA_384_BYTES == 48 && LUFFA_512_BYTES == 64);
-HOLDS(LUFFA_RECORD_BYTES == 208);
+HOLDS(LUFFA_RECORD_BYTES == 216);
 HOLDS(LUFFA_LIMIT == ((uint64_t)1 << 61) - 1);
 HOLDS(LUFFA_DONE == 0 && LUFFA_WIDTH == 1 && LUFFA_OUT == 2 && LUFFA_RECORD == 3 && LUFFA_LONG == 4);
 HOLDS(LUFFA_SHEET == 5 && LUFFA_MARKS == 6 && LUFFA_PLACE == 7 && LUFFA_FULL == 8 && LUFFA_SIZE == 9);
 HOLDS(LUFFA_CLAIM == 10 && LUFFA_STALE == 11 && LUFFA_BATCH == 13 && LUFFA_LIST == 25 && LUFFA_BATCH_MOST == 64);
+HOLDS(LUFFA_ODD == 17);
 HOLDS(LUFFA_SHEET_MOST == 1024 && LUFFA_SHEET_RECORD_BYTES == 40 && LUFFA_MARK_WORDS == 40);
 HOLDS(LUFFA_MARKS_FOR(0) == 40 && LUFFA_MARKS_FOR(3) == 40 && LUFFA_MARKS_FOR(4) == 80);
 HOLDS(LUFFA_MARKS_FOR(LUFFA_SHEET_MOST) == 10280 && LUFFA_MARKS_FOR(1 + 2) == 40);
@@ -33,16 +34,20 @@ HOLDS(sizeof(struct luffa_content_answer) == 24 && offsetof(struct luffa_content
 HOLDS(sizeof(struct luffa_brine_answer) == 40 && offsetof(struct luffa_brine_answer, number) == 0 &&
       offsetof(struct luffa_brine_answer, sound) == 8 && offsetof(struct luffa_brine_answer, faulted) == 16 &&
       offsetof(struct luffa_brine_answer, intake) == 24 && offsetof(struct luffa_brine_answer, overloaded) == 32);
-HOLDS(sizeof(struct luffa_hash) == 208 && offsetof(struct luffa_hash, code) == 0 &&
-      offsetof(struct luffa_hash, state) == 8 && offsetof(struct luffa_hash, pending) == 168 &&
-      offsetof(struct luffa_hash, count) == 200);
+HOLDS(sizeof(struct luffa_hash) == 224 && offsetof(struct luffa_hash, code) == 0 &&
+      offsetof(struct luffa_hash, odd) == 8 && offsetof(struct luffa_hash, state) == 16 &&
+      offsetof(struct luffa_hash, pending) == 176 && offsetof(struct luffa_hash, count_high) == 208 &&
+      offsetof(struct luffa_hash, count_low) == 216);
 
 static uint32_t (*const digest)(size_t, const uint8_t *, size_t, uint8_t *, size_t) = luffa_digest;
+static uint32_t (*const digest_bits)(size_t, const uint8_t *, size_t, size_t, uint8_t *, size_t) = luffa_digest_bits;
 static uint32_t (*const start)(size_t, uint8_t *, size_t) = luffa_start;
 static uint32_t (*const feed)(uint8_t *, size_t, const uint8_t *, size_t) = luffa_feed;
+static uint32_t (*const feed_bits)(uint8_t *, size_t, const uint8_t *, size_t, size_t) = luffa_feed_bits;
 static uint32_t (*const finish)(const uint8_t *, size_t, uint8_t *, size_t) = luffa_finish;
 static uint32_t (*const hash_start)(size_t, struct luffa_hash *) = luffa_hash_start;
 static uint32_t (*const hash_feed)(struct luffa_hash *, const uint8_t *, size_t) = luffa_hash_feed;
+static uint32_t (*const hash_feed_bits)(struct luffa_hash *, const uint8_t *, size_t, size_t) = luffa_hash_feed_bits;
 static uint32_t (*const hash_finish)(const struct luffa_hash *, uint8_t *, size_t) = luffa_hash_finish;
 
 typedef struct luffa_sheet_answer answer;
@@ -69,10 +74,13 @@ int main(void)
     int64_t spare[1];
 
     return digest(LUFFA_224, NULL, 0, out, sizeof out) != LUFFA_DONE ||
+           digest_bits(LUFFA_224, line, sizeof line, 7, out, sizeof out) != LUFFA_DONE ||
            start(LUFFA_512, record, sizeof record) != LUFFA_DONE ||
            feed(record, sizeof record, NULL, 0) != LUFFA_DONE ||
+           feed_bits(record, sizeof record, line, sizeof line, 7) != LUFFA_DONE ||
            finish(record, sizeof record, out, sizeof out) != LUFFA_DONE ||
            hash_start(LUFFA_512, &hash) != LUFFA_DONE || hash_feed(&hash, NULL, 0) != LUFFA_DONE ||
+           hash_feed_bits(&hash, line, sizeof line, 7) != LUFFA_DONE ||
            hash_finish(&hash, out, sizeof out) != LUFFA_DONE ||
            build(LUFFA_512, NULL, 0, 0, marks, LUFFA_MARKS_FOR(0), claim, sizeof claim).rounds != 3 ||
            append(LUFFA_512, sheet, sizeof sheet, 0, marks, LUFFA_MARKS_FOR(0), line, sizeof line, claim, sizeof claim,

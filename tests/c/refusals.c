@@ -1,6 +1,6 @@
-/* The refusals of luffa_digest and luffa_start, in their order. Those of luffa_feed and luffa_finish
-   are in malformed.c (3, also before 4 and before 2), limit.c (4) and digests.c (2).
-   luffa_digest's 4 can't be had: no machine can lend a message of over 2^61 - 1 bytes. */
+/* The refusals of the one-call digest and of luffa_start, in their order. Those of feed and finish are
+   in malformed.c (3, also before 17, 4 and 2), bits.c (17, also before 4), limit.c (4) and digests.c
+   (2). The digest's 4 can't be had: no machine can lend a message of 2^61 bytes. */
 #include "test.h"
 
 /* Codes that aren't 1 to 4, among them such as are once they are cut to 8, 16 or 32 bits. */
@@ -15,6 +15,19 @@ static const size_t unknown[] = {
     1ul << 63,   (1ul << 63) + 1,
     SIZE_MAX,    SIZE_MAX - 2,
 };
+
+/* Odd bits that the message doesn't have: 17 where the code is known and the output buffer long enough. */
+static void no_odd_bits(uint8_t *message, size_t message_len, size_t odd)
+{
+    digest_bits_call(LUFFA_WIDTH, 0, message, message_len, odd, LUFFA_512_BYTES, NULL);
+    digest_bits_call(LUFFA_WIDTH, 257, message, message_len, odd, 0, NULL);
+    for (size_t code = 1; code <= 4; code++) {
+        digest_bits_call(LUFFA_OUT, code, message, message_len, odd, 0, NULL);
+        digest_bits_call(LUFFA_OUT, code, message, message_len, odd, digest_bytes[code] - 1, NULL);
+        digest_bits_call(LUFFA_ODD, code, message, message_len, odd, digest_bytes[code], NULL);
+        digest_bits_call(LUFFA_ODD, code, message, message_len, odd, 100, NULL);
+    }
+}
 
 int main(void)
 {
@@ -37,5 +50,10 @@ int main(void)
         for (size_t record_len = 0; record_len <= 2 * LUFFA_RECORD_BYTES; record_len++)
             start_call(record_len == LUFFA_RECORD_BYTES ? LUFFA_DONE : LUFFA_RECORD, code, record_len, record);
     }
+    for (size_t i = 0; i < COUNT_OF(no_odd); i++)
+        for (size_t m = 0; m < 4; m++)
+            no_odd_bits(message, message_lens[m], no_odd[i]);
+    for (size_t odd = 1; odd <= MOST_ODD; odd++)
+        no_odd_bits(message, 0, odd);
     return 0;
 }

@@ -142,29 +142,45 @@ static int answered(uint32_t got, uint32_t want, const struct lent *record)
 const size_t digest_bytes[5] = {0, LUFFA_224_BYTES, LUFFA_256_BYTES, LUFFA_384_BYTES, LUFFA_512_BYTES};
 const size_t state_bytes[5] = {0, 96, 96, 128, 160};
 
-uint64_t count_of(const uint8_t *record)
-{
-    uint64_t count = 0;
+const size_t no_odd[10] = {
+    8, 9, 255, 256, 257, 65539, (size_t)1 << 32, ((size_t)1 << 32) + 1, ((size_t)1 << 63) + 5, SIZE_MAX,
+};
 
-    for (size_t i = 0; i < 8; i++)
-        count = count << 8 | record[COUNT + i];
+bytes_fed count_of(const uint8_t *record)
+{
+    bytes_fed count = 0;
+
+    for (size_t i = COUNT; i < LUFFA_RECORD_BYTES; i++)
+        count = count << 8 | record[i];
     return count;
 }
 
-void set_count(uint8_t *record, uint64_t count)
+void set_count(uint8_t *record, bytes_fed count)
 {
-    for (size_t i = 0; i < 8; i++)
-        record[COUNT + i] = (uint8_t)(count >> (56 - 8 * i));
+    for (size_t i = LUFFA_RECORD_BYTES; i > COUNT; i--, count >>= 8)
+        record[i - 1] = (uint8_t)count;
 }
 
-void any_record(uint8_t *record, size_t code, uint64_t count)
+bytes_fed most_bytes(size_t code) { return code <= 2 ? TWO_TO(61) - 1 : TWO_TO(125) - 1; }
+
+uint8_t odd_byte(uint8_t byte, size_t odd)
+{
+    return (uint8_t)(byte >> (8 - odd) << (8 - odd));
+}
+
+void any_odd_record(uint8_t *record, size_t code, bytes_fed count, size_t odd)
 {
     memset(record, 0, LUFFA_RECORD_BYTES);
     record[0] = (uint8_t)code;
+    record[1] = (uint8_t)odd;
     fill(record + STATE, state_bytes[code]);
     fill(record + PENDING, count % 32);
+    if (odd > 0)
+        record[PENDING + count % 32] = odd_byte(any_byte(), odd);
     set_count(record, count);
 }
+
+void any_record(uint8_t *record, size_t code, bytes_fed count) { any_odd_record(record, code, count, 0); }
 
 static int zeros(const uint8_t *bytes, size_t n)
 {
@@ -176,21 +192,49 @@ static int zeros(const uint8_t *bytes, size_t n)
 
 /* ---- The calls. */
 
-void digest_call(uint32_t want, size_t code, const uint8_t *message, size_t message_len, size_t out_len,
-                 uint8_t *digest)
+/* Which of two calls is made: that with `_bits` in its name, or the other. */
+enum form { BITS, PLAIN };
+
+static void digested(enum form form, uint32_t want, size_t code, const uint8_t *message, size_t message_len, size_t odd,
+                     size_t out_len, uint8_t *digest)
 {
     static struct lent m, o;
     uint8_t *in = lend(&m, message, message_len), *out = lend(&o, NULL, out_len);
     size_t written = want == LUFFA_DONE ? digest_bytes[code] : 0;
 
-    uint32_t got = luffa_digest(code, in, message_len, out, out_len);
-    check(got == want, "digest of %zu bytes at code %zu into %zu bytes: answered %u, wanted %u", message_len, code,
-          out_len, got, want);
+    uint32_t got = form == BITS ? luffa_digest_bits(code, in, message_len, odd, out, out_len)
+                                : luffa_digest(code, in, message_len, out, out_len);
+    check(got == want, "digest of %zu bytes, odd %zu, at code %zu into %zu bytes: answered %u, wanted %u", message_len,
+          odd, code, out_len, got, want);
     check(kept(&m, 0) && kept(&o, written),
-          "digest of %zu bytes at code %zu into %zu bytes, answer %u: wrote outside the digest", message_len, code,
-          out_len, got);
+          "digest of %zu bytes, odd %zu, at code %zu into %zu bytes, answer %u: wrote outside the digest", message_len,
+          odd, code, out_len, got);
     if (digest != NULL)
         memcpy(digest, o.bytes, written);
+}
+
+void digest_bits_call(uint32_t want, size_t code, const uint8_t *message, size_t message_len, size_t odd,
+                      size_t out_len, uint8_t *digest)
+{
+    if (odd == 0)
+        digest_call(want, code, message, message_len, out_len, digest);
+    else
+        digested(BITS, want, code, message, message_len, odd, out_len, digest);
+}
+
+void digest_call(uint32_t want, size_t code, const uint8_t *message, size_t message_len, size_t out_len,
+                 uint8_t *digest)
+{
+    uint8_t with_bits[LUFFA_512_BYTES], without[LUFFA_512_BYTES];
+
+    digested(BITS, want, code, message, message_len, 0, out_len, with_bits);
+    digested(PLAIN, want, code, message, message_len, 0, out_len, without);
+    if (want != LUFFA_DONE)
+        return;
+    check(memcmp(with_bits, without, digest_bytes[code]) == 0, "two digests of %zu bytes at code %zu", message_len,
+          code);
+    if (digest != NULL)
+        memcpy(digest, without, digest_bytes[code]);
 }
 
 void start_call(uint32_t want, size_t code, size_t record_len, uint8_t *record)
@@ -210,33 +254,61 @@ void start_call(uint32_t want, size_t code, size_t record_len, uint8_t *record)
     memcpy(record, lent, LUFFA_RECORD_BYTES);
 }
 
-void feed_call(uint32_t want, uint8_t *record, size_t record_len, const uint8_t *piece, size_t piece_len)
+/* Whether `now` is the record before with the piece added, state words aside where a block was filled. */
+static int is_fed(const uint8_t *now, const uint8_t *before, const uint8_t *piece, size_t whole, size_t odd)
+{
+    size_t held = count_of(before) % 32, rest = (held + whole) % 32, unused = STATE + state_bytes[before[0]];
+    uint8_t first[STATE] = {before[0], (uint8_t)odd}, pending[32] = {0};
+
+    for (size_t i = 0; i < rest; i++) {
+        /* Of the bytes held and then the piece, the last `rest`. */
+        size_t at = held + whole - rest + i;
+        pending[i] = at < held ? before[PENDING + at] : piece[at - held];
+    }
+    if (odd > 0)
+        pending[rest] = odd_byte(piece[whole], odd);
+    return memcmp(now, first, STATE) == 0 && zeros(now + unused, PENDING - unused) &&
+           memcmp(now + PENDING, pending, 32) == 0 && count_of(now) == count_of(before) + whole &&
+           (held + whole >= 32 || memcmp(now + STATE, before + STATE, PENDING - STATE) == 0);
+}
+
+static void fed(enum form form, uint32_t want, uint8_t *record, size_t record_len, const uint8_t *piece,
+                size_t piece_len, size_t odd)
 {
     static struct lent r, p;
     uint8_t *lent = lend(&r, record, record_len), *in = lend(&p, piece, piece_len);
 
-    uint32_t got = luffa_feed(lent, record_len, in, piece_len);
-    check(answered(got, want, &r), "feed of %zu bytes to a record of %zu: answered %u, wanted %u", piece_len, record_len, got,
-          want);
+    uint32_t got = form == BITS ? luffa_feed_bits(lent, record_len, in, piece_len, odd)
+                                : luffa_feed(lent, record_len, in, piece_len);
+    check(answered(got, want, &r), "feed of %zu bytes, odd %zu, to a record of %zu: answered %u, wanted %u", piece_len,
+          odd, record_len, got, want);
     check(kept(&r, want == LUFFA_DONE ? LUFFA_RECORD_BYTES : 0) && kept(&p, 0),
-          "feed of %zu bytes to a record of %zu, answer %u: wrote outside the record", piece_len, record_len, got);
+          "feed of %zu bytes, odd %zu, to a record of %zu, answer %u: wrote outside the record", piece_len, odd,
+          record_len, got);
     if (want != LUFFA_DONE)
         return;
-
-    size_t code = record[0], held = count_of(record) % 32, now = (held + piece_len) % 32;
-    size_t unused = STATE + state_bytes[code];
-    uint8_t pending[32] = {0};
-    for (size_t i = 0; i < now; i++) {
-        /* Of the bytes held and then the piece, the last `now`. */
-        size_t at = held + piece_len - now + i;
-        pending[i] = at < held ? record[PENDING + at] : in[at - held];
-    }
-    check(memcmp(lent, record, STATE) == 0 && zeros(lent + unused, PENDING - unused) &&
-              memcmp(lent + PENDING, pending, 32) == 0 && count_of(lent) == count_of(record) + piece_len &&
-              (held + piece_len >= 32 || memcmp(lent + STATE, record + STATE, PENDING - STATE) == 0),
-          "feed of %zu bytes at code %zu after %llu: wrong record", piece_len, code,
-          (unsigned long long)count_of(record));
+    check(is_fed(lent, record, in, piece_len - (odd > 0), odd), "feed of %zu bytes, odd %zu, at code %u after %llu: wrong record",
+          piece_len, odd, record[0], (unsigned long long)count_of(record));
     memcpy(record, lent, LUFFA_RECORD_BYTES);
+}
+
+void feed_bits_call(uint32_t want, uint8_t *record, size_t record_len, const uint8_t *piece, size_t piece_len,
+                    size_t odd)
+{
+    if (odd == 0)
+        feed_call(want, record, record_len, piece, piece_len);
+    else
+        fed(BITS, want, record, record_len, piece, piece_len, odd);
+}
+
+void feed_call(uint32_t want, uint8_t *record, size_t record_len, const uint8_t *piece, size_t piece_len)
+{
+    uint8_t with_bits[2 * LUFFA_RECORD_BYTES];
+
+    memcpy(with_bits, record, record_len);
+    fed(BITS, want, with_bits, record_len, piece, piece_len, 0);
+    fed(PLAIN, want, record, record_len, piece, piece_len, 0);
+    check(memcmp(with_bits, record, record_len) == 0, "two records after a feed of %zu bytes", piece_len);
 }
 
 void finish_call(uint32_t want, const uint8_t *record, size_t record_len, size_t out_len, uint8_t *digest)
@@ -269,17 +341,37 @@ void hash_start_call(uint32_t want, size_t code, struct luffa_hash *hash)
         memcpy(hash, lent, sizeof *hash);
 }
 
-void hash_feed_call(uint32_t want, struct luffa_hash *hash, const uint8_t *piece, size_t piece_len)
+static void hash_fed(enum form form, uint32_t want, struct luffa_hash *hash, const uint8_t *piece, size_t piece_len,
+                     size_t odd)
 {
     static struct lent l, p;
     uint8_t *lent = lend_aligned(&l, (const uint8_t *)hash, sizeof *hash, sizeof(uint64_t));
     uint8_t *in = lend(&p, piece, piece_len);
 
-    uint32_t got = luffa_hash_feed((struct luffa_hash *)lent, in, piece_len);
-    check(got == want, "feed of %zu bytes to a struct at code %zu: answered %u, wanted %u", piece_len, hash->code, got, want);
+    uint32_t got = form == BITS ? luffa_hash_feed_bits((struct luffa_hash *)lent, in, piece_len, odd)
+                                : luffa_hash_feed((struct luffa_hash *)lent, in, piece_len);
+    check(got == want, "feed of %zu bytes, odd %zu, to a struct at code %zu: answered %u, wanted %u", piece_len, odd,
+          hash->code, got, want);
     check(kept(&l, want == LUFFA_DONE ? sizeof *hash : 0) && kept(&p, 0),
-          "feed of %zu bytes to a struct, answer %u: wrote outside it", piece_len, got);
+          "feed of %zu bytes, odd %zu, to a struct, answer %u: wrote outside it", piece_len, odd, got);
     memcpy(hash, lent, sizeof *hash);
+}
+
+void hash_feed_bits_call(uint32_t want, struct luffa_hash *hash, const uint8_t *piece, size_t piece_len, size_t odd)
+{
+    if (odd == 0)
+        hash_feed_call(want, hash, piece, piece_len);
+    else
+        hash_fed(BITS, want, hash, piece, piece_len, odd);
+}
+
+void hash_feed_call(uint32_t want, struct luffa_hash *hash, const uint8_t *piece, size_t piece_len)
+{
+    struct luffa_hash with_bits = *hash;
+
+    hash_fed(BITS, want, &with_bits, piece, piece_len, 0);
+    hash_fed(PLAIN, want, hash, piece, piece_len, 0);
+    check(memcmp(&with_bits, hash, sizeof *hash) == 0, "two structs after a feed of %zu bytes", piece_len);
 }
 
 void hash_finish_call(uint32_t want, const struct luffa_hash *hash, size_t out_len, uint8_t *digest)

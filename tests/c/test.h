@@ -20,18 +20,36 @@ void fill(uint8_t *bytes, size_t n);
 /* By code: bytes of the digest, and of the state words that the code uses. */
 extern const size_t digest_bytes[5], state_bytes[5];
 
-/* Where the record's fields begin (document 01, "The kept hash record"). */
+/* Where the record's fields begin (Q-7 in document 02). */
 enum { STATE = 8, PENDING = 168, COUNT = 200 };
 
-uint64_t count_of(const uint8_t *record);
-void set_count(uint8_t *record, uint64_t count);
+/* The most odd bits, and numbers that are over it, some of them not once they are cut. */
+enum { MOST_ODD = 7 };
+extern const size_t no_odd[10];
 
-/* A well-formed record of this count, with any state words and any pending bytes. */
-void any_record(uint8_t *record, size_t code, uint64_t count);
+/* A count has more bits than C's own numbers. */
+__extension__ typedef unsigned __int128 bytes_fed;
+#define TWO_TO(bits) ((bytes_fed)1 << (bits))
 
-/* The calls. `want` is the number that must be answered. */
+bytes_fed count_of(const uint8_t *record);
+void set_count(uint8_t *record, bytes_fed count);
+
+/* The most whole bytes of a message at a code: Table 1's bits, by 8. */
+bytes_fed most_bytes(size_t code);
+
+/* The bits of a byte of which the message has the `odd` highest, without the others. */
+uint8_t odd_byte(uint8_t byte, size_t odd);
+
+/* A well-formed record of this count and these odd bits, with any state words and any pending bits. */
+void any_odd_record(uint8_t *record, size_t code, bytes_fed count, size_t odd);
+void any_record(uint8_t *record, size_t code, bytes_fed count);
+
+/* The calls. `want` is the number that must be answered. Where there are no odd bits, the library's call
+   with `_bits` in its name is made and the other too, and both must leave the same. */
 
 /* Where done, `digest` gets the digest; it may be null. */
+void digest_bits_call(uint32_t want, size_t code, const uint8_t *message, size_t message_len, size_t odd,
+                      size_t out_len, uint8_t *digest);
 void digest_call(uint32_t want, size_t code, const uint8_t *message, size_t message_len, size_t out_len,
                  uint8_t *digest);
 
@@ -40,6 +58,8 @@ void start_call(uint32_t want, size_t code, size_t record_len, uint8_t *record);
 
 /* Where done, all of the record but its state words is judged, and these too where no block was
    filled; then `record` gets it. */
+void feed_bits_call(uint32_t want, uint8_t *record, size_t record_len, const uint8_t *piece, size_t piece_len,
+                    size_t odd);
 void feed_call(uint32_t want, uint8_t *record, size_t record_len, const uint8_t *piece, size_t piece_len);
 
 /* Where done, `digest` gets the digest; it may be null. */
@@ -48,6 +68,7 @@ void finish_call(uint32_t want, const uint8_t *record, size_t record_len, size_t
 /* The calls over a struct, which is lent as a copy and got back. Where done, the digest is written to
    `digest`; it may be null. */
 void hash_start_call(uint32_t want, size_t code, struct luffa_hash *hash);
+void hash_feed_bits_call(uint32_t want, struct luffa_hash *hash, const uint8_t *piece, size_t piece_len, size_t odd);
 void hash_feed_call(uint32_t want, struct luffa_hash *hash, const uint8_t *piece, size_t piece_len);
 void hash_finish_call(uint32_t want, const struct luffa_hash *hash, size_t out_len, uint8_t *digest);
 

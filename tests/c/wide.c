@@ -100,7 +100,7 @@ int main(void)
     brine(mapped);
     uint32_t *marks = (void *)map(4 * WIDE + 65536);
     for (size_t code = 1; code <= 4; code++) {
-        /* A record buffer of 2^32 + 208 bytes isn't one of 208. */
+        /* A record buffer of 2^32 + 216 bytes isn't one of 216. */
         any_record(record, code, 40);
         check(luffa_start(code, mapped, WIDE + LUFFA_RECORD_BYTES) == LUFFA_RECORD && holds(mapped, record, 0),
               "start in a wide buffer at code %zu", code);
@@ -127,7 +127,7 @@ int main(void)
         /* A piece of 2^32 bytes isn't an empty one, nor is one of 2^32 + 1 a byte. */
         for (size_t left = 0; left < 40; left++) {
             uint8_t copy[LUFFA_RECORD_BYTES];
-            any_record(record, code, LUFFA_LIMIT - left);
+            any_record(record, code, most_bytes(code) - left);
             memcpy(copy, record, sizeof copy);
             for (size_t n = WIDE; n <= WIDE + left; n++)
                 check(luffa_feed(record, sizeof record, mapped, n) == LUFFA_LONG &&
