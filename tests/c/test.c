@@ -287,8 +287,9 @@ static void fed(enum form form, uint32_t want, uint8_t *record, size_t record_le
           record_len, got);
     if (want != LUFFA_DONE)
         return;
-    check(is_fed(lent, record, in, piece_len - (odd > 0), odd), "feed of %zu bytes, odd %zu, at code %u after %llu: wrong record",
-          piece_len, odd, record[0], (unsigned long long)count_of(record));
+    check(is_fed(lent, record, in, piece_len - (odd > 0), odd),
+          "feed of %zu bytes, odd %zu, at code %u after %llu: wrong record", piece_len, odd, record[0],
+          (unsigned long long)count_of(record));
     memcpy(record, lent, LUFFA_RECORD_BYTES);
 }
 

@@ -131,6 +131,7 @@ int main(void)
             memcpy(copy, record, sizeof copy);
             for (size_t n = WIDE; n <= WIDE + left; n++)
                 check(luffa_feed(record, sizeof record, mapped, n) == LUFFA_LONG &&
+                          luffa_feed_bits(record, sizeof record, mapped, n, MOST_ODD) == LUFFA_LONG &&
                           memcmp(record, copy, sizeof copy) == 0,
                       "feed of a wide piece at code %zu with room for %zu bytes", code, left);
         }

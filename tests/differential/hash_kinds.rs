@@ -31,7 +31,7 @@ fn no_odd(call: &str, bytes: &[u8], odd: usize) -> String {
     match bytes {
         _ if odd > MOST_ODD => format!("{call} 17, odd {odd}"),
         [] => format!("{call} 17, odd {odd} of no bytes"),
-        _ => format!("{call} 17 otherwise"),
+        _ => unreachable!("{call} has odd bits, and they are refused"),
     }
 }
 

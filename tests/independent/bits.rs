@@ -14,7 +14,7 @@ pub fn most_bits(code: usize) -> u128 {
     }
 }
 
-/// Whether a message may have so many bits; none given are 2^128 or more.
+/// Whether a message may have so many bits; `None` is 2^128 or more.
 pub fn allowed(code: usize, bits: Option<u128>) -> bool {
     bits.is_some_and(|bits| bits <= most_bits(code))
 }
