@@ -63,4 +63,20 @@ impl Code {
             Code::Luffa512 => 64,
         }
     }
+
+    /// The most bits that a message may have at this code: fewer than 2^64 at 224 and 256 bits, fewer
+    /// than 2^128 at 384 and 512.
+    ///
+    /// ```
+    /// use luffa::Code;
+    ///
+    /// assert_eq!(Code::Luffa256.most_bits(), (1 << 64) - 1);
+    /// assert_eq!(Code::Luffa512.most_bits(), u128::MAX);
+    /// ```
+    pub const fn most_bits(self) -> u128 {
+        match self {
+            Code::Luffa224 | Code::Luffa256 => u64::MAX as u128,
+            Code::Luffa384 | Code::Luffa512 => u128::MAX,
+        }
+    }
 }

@@ -41,13 +41,32 @@ impl Digest {
     ///
     /// # Panics
     ///
-    /// If the message is longer than [`LIMIT`](crate::LIMIT), as no slice in memory is.
+    /// If the message has more than [`Code::most_bits`], as no slice in memory has.
     pub fn of(code: Code, message: impl AsRef<[u8]>) -> Digest {
         let (digest, done) = Digest::written(code, |out| {
             ffi::digest(code.number(), message.as_ref(), out)
         });
         done.expect("no slice in memory passes the limit");
         digest
+    }
+
+    /// The digest of a message that stops inside a byte. With `odd` from 1 to 7 the last byte has that
+    /// many bits of the message, its highest, and the others don't matter; with 0 it is whole.
+    ///
+    /// [`Error::Odd`] if `odd` is over 7, or isn't 0 and there is no byte.
+    ///
+    /// ```
+    /// use luffa::{Code, Digest, Error, Luffa384};
+    ///
+    /// let digest = Digest::of_bits(Code::Luffa384, [0xab, 0xc0], 4)?;
+    /// assert_eq!(digest, Digest::from(Luffa384::digest_bits([0xab, 0xc0], 4)?));
+    /// # Ok::<(), Error>(())
+    /// ```
+    pub fn of_bits(code: Code, message: impl AsRef<[u8]>, odd: usize) -> Result<Digest, Error> {
+        let (digest, done) = Digest::written(code, |out| {
+            ffi::digest_bits(code.number(), message.as_ref(), odd, out)
+        });
+        done.map(|()| digest)
     }
 
     /// The digest at a code whose bytes a call writes, with the call's answer.

@@ -29,7 +29,7 @@ pub enum Error {
     Out,
     /// 3: the hash record isn't well formed, or is of another code or length.
     Record,
-    /// 4: the message would pass [`LIMIT`](crate::LIMIT).
+    /// 4: the message would have more than [`Code::most_bits`](crate::Code::most_bits).
     Long,
     /// 5: a sheet of more than 1,024 records, or bytes that aren't whole records.
     Sheet,
@@ -50,6 +50,9 @@ pub enum Error {
     },
     /// 13: a batch of more than 64 sheets.
     Batch,
+    /// 17: more than 7 odd bits, odd bits without a byte that has them, or a record whose message has
+    /// ended with odd bits.
+    Odd,
     /// 25: a list has fewer places than the batch has records.
     /// [`plan::brine_into`](crate::plan::brine_into) alone gives it.
     List,
@@ -71,6 +74,7 @@ impl Error {
             Error::Claim => 10,
             Error::Stale { .. } => 11,
             Error::Batch => 13,
+            Error::Odd => 17,
             Error::List => 25,
         }
     }
@@ -93,6 +97,7 @@ impl Error {
             Error::Claim,
             Error::Stale { rounds },
             Error::Batch,
+            Error::Odd,
             Error::List,
         ];
         match all.into_iter().find(|e| u64::from(e.number()) == number) {
@@ -109,7 +114,7 @@ impl fmt::Display for Error {
             Error::Width => "the code isn't 1 to 4",
             Error::Out => "the output buffer is shorter than the digest",
             Error::Record => "this isn't a well-formed hash record of this code",
-            Error::Long => "the message would pass 2^61 - 1 bytes",
+            Error::Long => "the message would have too many bits for the code",
             Error::Sheet => "a sheet is at most 1,024 whole records of 40 bytes",
             Error::Marks => "there are too few words for the marks",
             Error::Place => "there is no record at this place",
@@ -118,6 +123,7 @@ impl fmt::Display for Error {
             Error::Claim => "the claimed digest has another length",
             Error::Stale { .. } => "the sheet isn't the one whose digest is claimed",
             Error::Batch => "a batch is at most 64 sheets",
+            Error::Odd => "no message has these odd bits, or it has ended with odd bits already",
             Error::List => "a list has fewer places than the batch has records",
         })
     }

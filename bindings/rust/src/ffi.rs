@@ -45,8 +45,23 @@ unsafe extern "C" {
         out: *mut u8,
         out_len: usize,
     ) -> u32;
+    fn luffa_digest_bits(
+        code: usize,
+        message: *const u8,
+        message_len: usize,
+        odd: usize,
+        out: *mut u8,
+        out_len: usize,
+    ) -> u32;
     fn luffa_start(code: usize, record: *mut u8, record_len: usize) -> u32;
     fn luffa_feed(record: *mut u8, record_len: usize, piece: *const u8, piece_len: usize) -> u32;
+    fn luffa_feed_bits(
+        record: *mut u8,
+        record_len: usize,
+        piece: *const u8,
+        piece_len: usize,
+        odd: usize,
+    ) -> u32;
     fn luffa_finish(record: *const u8, record_len: usize, out: *mut u8, out_len: usize) -> u32;
     fn luffa_sheet_build(
         code: usize,
@@ -127,6 +142,22 @@ pub fn digest(code: usize, message: &[u8], out: &mut [u8]) -> Result<(), Error> 
     Error::judge(number.into(), 0)
 }
 
+pub fn digest_bits(code: usize, message: &[u8], odd: usize, out: &mut [u8]) -> Result<(), Error> {
+    let (message_len, out_len) = (message.len(), out.len());
+    // SAFETY: as in `digest`; the library judges `odd`.
+    let number = unsafe {
+        luffa_digest_bits(
+            code,
+            message.as_ptr(),
+            message_len,
+            odd,
+            out.as_mut_ptr(),
+            out_len,
+        )
+    };
+    Error::judge(number.into(), 0)
+}
+
 pub fn start(code: usize, record: &mut [u8]) -> Result<(), Error> {
     // SAFETY: `record` is written within its length, and is the one buffer lent.
     let number = unsafe { luffa_start(code, record.as_mut_ptr(), record.len()) };
@@ -138,6 +169,21 @@ pub fn feed(record: &mut [u8], piece: &[u8]) -> Result<(), Error> {
     // SAFETY: `record` is read and written and `piece` is read within their lengths; they are
     // distinct borrows.
     let number = unsafe { luffa_feed(record.as_mut_ptr(), record_len, piece.as_ptr(), piece_len) };
+    Error::judge(number.into(), 0)
+}
+
+pub fn feed_bits(record: &mut [u8], piece: &[u8], odd: usize) -> Result<(), Error> {
+    let (record_len, piece_len) = (record.len(), piece.len());
+    // SAFETY: as in `feed`; the library judges `odd`.
+    let number = unsafe {
+        luffa_feed_bits(
+            record.as_mut_ptr(),
+            record_len,
+            piece.as_ptr(),
+            piece_len,
+            odd,
+        )
+    };
     Error::judge(number.into(), 0)
 }
 

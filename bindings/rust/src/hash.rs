@@ -1,18 +1,17 @@
-//! The four hashes, each over the 208-byte record of the message fed so far.
+//! The four hashes, each over the 216-byte record of the message fed so far. Messages that stop inside a
+//! byte are in bits.rs.
 
 use crate::{Code, Error, ffi};
 use std::{fmt, io};
 
+mod bits;
 #[cfg(test)]
 mod tests;
 
 /// The bytes of a kept hash record.
-pub const RECORD_BYTES: usize = 208;
+pub const RECORD_BYTES: usize = 216;
 
-/// The most bytes that a message may have, at every code: 2^61 - 1.
-pub const LIMIT: u64 = (1 << 61) - 1;
-
-/// A well-formed record at the code of the type that holds it.
+/// A well-formed record at the code of the type that holds it, without odd bits: it can be fed on.
 #[derive(Clone)]
 struct Kept([u8; RECORD_BYTES]);
 
@@ -24,13 +23,19 @@ impl Kept {
     }
 
     fn restore(code: Code, record: &[u8]) -> Result<Kept, Error> {
+        let record = Kept::of_code(code, record)?;
         let mut kept = Kept(record.try_into().map_err(|_| Error::Record)?);
         // An empty piece changes nothing; the library judges the record all the same.
         kept.feed(&[])?;
-        if usize::from(kept.0[0]) != code.number() {
-            return Err(Error::Record);
-        }
         Ok(kept)
+    }
+
+    /// The record, if its first byte is this code. The library judges the rest.
+    fn of_code(code: Code, record: &[u8]) -> Result<&[u8], Error> {
+        match record.first() {
+            Some(&first) if usize::from(first) == code.number() => Ok(record),
+            _ => Err(Error::Record),
+        }
     }
 
     fn feed(&mut self, piece: &[u8]) -> Result<(), Error> {
@@ -80,6 +85,9 @@ macro_rules! hash {
             /// The bytes of the digest.
             pub const BYTES: usize = $bytes;
 
+            /// The most bits that a message may have.
+            pub const MOST_BITS: u128 = Self::CODE.most_bits();
+
             /// The empty message.
             ///
             /// ```
@@ -103,7 +111,7 @@ macro_rules! hash {
             ///
             /// # Panics
             ///
-            /// If the message is longer than [`LIMIT`], as no slice in memory is.
+            /// If the message has more than [`MOST_BITS`](Self::MOST_BITS), as no slice in memory has.
             #[track_caller]
             pub fn digest(message: impl AsRef<[u8]>) -> [u8; $bytes] {
                 let mut out = [0; $bytes];
@@ -126,8 +134,8 @@ macro_rules! hash {
             ///
             /// # Panics
             ///
-            /// If the message would pass [`LIMIT`]: only records that were restored come near it.
-            /// [`try_update`](Self::try_update) answers instead.
+            /// If the message would have more than [`MOST_BITS`](Self::MOST_BITS): only records that were
+            /// restored come near it. [`try_update`](Self::try_update) answers instead.
             #[track_caller]
             pub fn update(&mut self, piece: impl AsRef<[u8]>) {
                 if let Err(refused) = self.try_update(piece) {
@@ -135,15 +143,16 @@ macro_rules! hash {
                 }
             }
 
-            /// Adds a piece to the message, or answers [`Error::Long`] if the message would pass
-            /// [`LIMIT`], and adds nothing of it.
+            /// Adds a piece to the message, or answers [`Error::Long`] if the message would have more than
+            /// [`MOST_BITS`](Self::MOST_BITS), and adds nothing of it.
             ///
             /// ```
             #[doc = concat!("use luffa::{Error, ", stringify!($name), "};")]
             ///
-            /// // The record of a message to which one byte can be added.
+            /// // The record of a message to which one byte can be added; its last part counts the bytes.
             #[doc = concat!("let mut record = ", stringify!($name), "::new().to_record();")]
-            /// record[200..].copy_from_slice(&(luffa::LIMIT - 1).to_be_bytes());
+            #[doc = concat!("let most_bytes = ", stringify!($name), "::MOST_BITS / 8;")]
+            /// record[200..].copy_from_slice(&(most_bytes - 1).to_be_bytes());
             #[doc = concat!("let mut hash = ", stringify!($name), "::from_record(&record)?;")]
             /// assert_eq!(hash.try_update("ab"), Err(Error::Long));
             /// assert_eq!(hash.try_update("a"), Ok(()));
@@ -232,14 +241,17 @@ macro_rules! hash {
                 self.0 .0
             }
 
-            /// Goes on from a kept record, or answers [`Error::Record`] if it isn't well formed or is
-            /// of another code. Who made it can't be known.
+            /// Goes on from a kept record. Who made it can't be known.
+            ///
+            /// [`Error::Record`] if it isn't well formed or is of another code, as is one of the 208 bytes
+            /// that version 1 kept; [`Error::Odd`] if its message has ended with odd bits:
+            /// [`finalize_record`](Self::finalize_record) takes that too.
             ///
             /// ```
             #[doc = concat!("use luffa::{Error, ", stringify!($name), "};")]
             ///
             #[doc = concat!("let mut kept = ", stringify!($name), "::new().to_record();")]
-            /// kept[1] = 1;
+            /// kept[7] = 1;
             #[doc = concat!("assert_eq!(", stringify!($name), "::from_record(&kept).err(), Some(Error::Record));")]
             /// ```
             pub fn from_record(record: &[u8]) -> Result<Self, Error> {

@@ -12,6 +12,18 @@
 //! assert_eq!(hash.finalize(), Luffa256::digest("abc"));
 //! ```
 //!
+//! A message may stop inside a byte, as a bit-packed frame does; see [`Luffa256::finalize_bits`]:
+//!
+//! ```
+//! use luffa::{Error, Luffa256};
+//!
+//! // Two bytes and the three highest bits of the last.
+//! let frame = [0x01, 0x23, 0x40];
+//! let digest = Luffa256::digest_bits(frame, 3)?;
+//! assert_eq!(digest, Luffa256::new().chain_update([0x01]).finalize_bits([0x23, 0x40], 3)?);
+//! # Ok::<(), Error>(())
+//! ```
+//!
 //! A [`Sheet`] takes a change only with the digest of the sheet that was seen:
 //!
 //! ```
@@ -51,7 +63,7 @@ mod sheet;
 pub use code::Code;
 pub use digest::{Digest, ParseDigestError};
 pub use error::Error;
-pub use hash::{LIMIT, Luffa224, Luffa256, Luffa384, Luffa512, RECORD_BYTES};
+pub use hash::{Luffa224, Luffa256, Luffa384, Luffa512, RECORD_BYTES};
 pub use sheet::{Saved, Sheet};
 
 /// The example in the README runs too.

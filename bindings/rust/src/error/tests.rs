@@ -9,7 +9,7 @@ use crate::{Code, Digest, Luffa256, Sheet};
 fn numbers_and_sentences() {
     assert_eq!(Error::judge(0, 0), Ok(()));
     let mut sentences = Vec::new();
-    for number in (1..=11).chain([13, 25]) {
+    for number in (1..=11).chain([13, 17, 25]) {
         let error = Error::judge(number, 5).unwrap_err();
         assert_eq!(u64::from(error.number()), number);
         let source: &dyn std::error::Error = &error;
@@ -18,7 +18,7 @@ fn numbers_and_sentences() {
     assert_eq!(Error::judge(11, 5), Err(Error::Stale { rounds: 5 }));
     sentences.sort();
     sentences.dedup();
-    assert_eq!(sentences.len(), 13);
+    assert_eq!(sentences.len(), 14);
 }
 
 #[test]
@@ -36,11 +36,14 @@ fn met_by_callers() {
     for code in Code::ALL {
         assert_eq!(Code::from_number(code.number()), Ok(code));
     }
-    assert_eq!(Luffa256::from_record(&[0; 208]).err(), Some(Error::Record));
+    let zeros = [0; crate::RECORD_BYTES];
+    assert_eq!(Luffa256::from_record(&zeros).err(), Some(Error::Record));
     let mut record = Luffa256::new().to_record();
-    record[200..].copy_from_slice(&crate::LIMIT.to_be_bytes());
+    record[200..].copy_from_slice(&(Luffa256::MOST_BITS / 8).to_be_bytes());
     let mut hash = Luffa256::from_record(&record).unwrap();
     assert_eq!(hash.try_update("a"), Err(Error::Long));
+    assert_eq!(hash.finalize_bits("a", 8), Err(Error::Odd));
+    assert_eq!(Digest::of_bits(code, "", 1), Err(Error::Odd));
     let over = Sheet::from_records(code, &[[0; 40]; 1025]);
     assert_eq!(over.err(), Some(Error::Sheet));
 
@@ -70,6 +73,18 @@ fn met_beneath_the_types() {
     assert_eq!(ffi::digest(2, b"", &mut out[1..]), Err(Error::Out));
     assert_eq!(ffi::finish(&record, &mut out[1..]), Err(Error::Out));
     assert_eq!(ffi::finish(&record[1..], &mut out), Err(Error::Record));
+
+    // Odd bits are judged after the buffers, and before the length.
+    let short = &mut out[1..];
+    assert_eq!(ffi::digest_bits(5, b"", 8, short), Err(Error::Width));
+    assert_eq!(ffi::digest_bits(2, b"", 8, short), Err(Error::Out));
+    assert_eq!(ffi::digest_bits(2, b"a", 8, &mut out), Err(Error::Odd));
+    let wrong = &mut record[1..];
+    assert_eq!(ffi::feed_bits(wrong, b"a", 8), Err(Error::Record));
+    // A message that has ended isn't fed on, not even with nothing.
+    assert_eq!(ffi::feed_bits(&mut record, b"a", 1), Ok(()));
+    assert_eq!(ffi::feed_bits(&mut record, b"", 0), Err(Error::Odd));
+    assert_eq!(ffi::feed(&mut record, b""), Err(Error::Odd));
 
     assert_eq!(ffi::build(0, &sheet, 2, &mut marks, &mut out).number, 1);
     assert_eq!(

@@ -1,14 +1,14 @@
 //! The four hashes: document 01's digests, pieces against one call, kept records, and the limit.
 
-use super::{LIMIT, RECORD_BYTES};
+use super::RECORD_BYTES;
 use crate::random::Numbers;
 use crate::{Code, Digest, Error};
 use std::io::Write;
 
 /// Where the parts of a record begin.
-const STATE: usize = 8;
-const PENDING: usize = 168;
-const COUNT: usize = 200;
+pub const STATE: usize = 8;
+pub const PENDING: usize = 168;
+pub const COUNT: usize = 200;
 
 /// The same tests of each type: its number, the words of its state, and document 01's digest of `abc`.
 macro_rules! tests_of {
@@ -16,6 +16,9 @@ macro_rules! tests_of {
         mod $module {
             use super::*;
             type Hash = crate::$name;
+
+            /// The most whole bytes of a message.
+            const MOST: u128 = Hash::MOST_BITS / 8;
 
             #[test]
             fn abc() {
@@ -83,7 +86,7 @@ macro_rules! tests_of {
                 for cut in 0..=message.len() {
                     let kept = Hash::new().chain_update(&message[..cut]).to_record();
                     assert_eq!(kept[0], $number);
-                    assert_eq!(kept[COUNT..], (cut as u64).to_be_bytes());
+                    assert_eq!(kept[COUNT..], (cut as u128).to_be_bytes());
                     let pending = &message[cut / 32 * 32..cut];
                     assert_eq!(kept[PENDING..PENDING + pending.len()], *pending);
                     let hash = Hash::from_record(&kept).unwrap();
@@ -102,9 +105,11 @@ macro_rules! tests_of {
                 // Another length.
                 assert!(refused(&[]) && refused(&good[1..]) && refused(&good[..RECORD_BYTES - 1]));
                 assert!(refused(&[&good[..], &[0]].concat()));
-                // A byte that must be zero: the seven, words of unused blocks, after the pending six.
+                // The 208 bytes that version 1 kept of the same message: the count had eight.
+                assert!(refused(&[&good[..COUNT], &good[COUNT + 8..]].concat()));
+                // A byte that must be zero: the six, words of unused blocks, after the pending six.
                 let unused = STATE + 4 * $words..PENDING;
-                for byte in (1..STATE).chain(unused).chain(PENDING + 6..COUNT) {
+                for byte in (2..STATE).chain(unused).chain(PENDING + 6..COUNT) {
                     let mut record = good;
                     record[byte] = 1;
                     assert!(refused(&record), "byte {byte}");
@@ -115,9 +120,9 @@ macro_rules! tests_of {
                 assert!(!refused(&record));
                 // A count over the limit; the low five bits still say six pending bytes.
                 record = good;
-                record[COUNT..].copy_from_slice(&(LIMIT + 7).to_be_bytes());
+                record[COUNT..].copy_from_slice(&(MOST + 7).to_be_bytes());
                 assert!(refused(&record));
-                record[COUNT..].copy_from_slice(&(LIMIT - 25).to_be_bytes());
+                record[COUNT..].copy_from_slice(&(MOST - 25).to_be_bytes());
                 assert!(!refused(&record));
             }
 
@@ -143,7 +148,7 @@ macro_rules! tests_of {
             /// A hash with two bytes to the limit.
             fn near_the_limit() -> Hash {
                 let mut record = Hash::new().to_record();
-                record[COUNT..].copy_from_slice(&(LIMIT - 2).to_be_bytes());
+                record[COUNT..].copy_from_slice(&(MOST - 2).to_be_bytes());
                 Hash::from_record(&record).unwrap()
             }
 
@@ -157,13 +162,28 @@ macro_rules! tests_of {
                 assert_eq!(inside, Some(&Error::Long));
                 assert_eq!(hash.to_record(), before);
                 assert_eq!(hash.try_update("ab"), Ok(()));
-                assert_eq!(hash.to_record()[COUNT..], LIMIT.to_be_bytes());
+                assert_eq!(hash.to_record()[COUNT..], MOST.to_be_bytes());
                 assert_eq!(hash.try_update("c"), Err(Error::Long));
                 assert_eq!(hash.try_update(""), Ok(()));
             }
 
+            /// At 384 and 512 bits the count goes on where eight bytes would be full.
             #[test]
-            #[should_panic(expected = "the message would pass 2^61 - 1 bytes")]
+            fn a_count_past_64_bits() {
+                let mut record = Hash::new().to_record();
+                let count = u128::from(u64::MAX);
+                record[COUNT..].copy_from_slice(&count.to_be_bytes());
+                let hash = Hash::from_record(&record);
+                if Hash::BYTES < 48 {
+                    assert_eq!(hash.err(), Some(Error::Record));
+                } else {
+                    let hash = hash.unwrap().chain_update("a");
+                    assert_eq!(hash.to_record()[COUNT..], (count + 1).to_be_bytes());
+                }
+            }
+
+            #[test]
+            #[should_panic(expected = "the message would have too many bits for the code")]
             fn update_past_the_limit() {
                 near_the_limit().update("abc");
             }
