@@ -1,6 +1,6 @@
 /* Cycles per byte of the archive and of portable.c over the same messages in one run, of feeding against the one-call digest, and of the
-   sheet calls against hashing the whole sheet, with the bars; then the other parts: plans.c has what a sheet means, stack.c the stack of each
-   call. It measures nothing before all have given the same digests and the calls on sound sheets were right; --check leaves out the clock. */
+   sheet calls against hashing the whole sheet, with the bars; then the other parts: bits.c has messages that stop inside a byte, plans.c what a
+   sheet means, stack.c the stack of each call. It measures nothing before all have given the same digests and the calls on sound sheets were right; --check leaves out the clock. */
 #include "bench.h"
 #include "portable.h"
 
@@ -24,15 +24,15 @@ static void print_out(const char *name, uint32_t answer, const struct job *job)
 }
 
 /* Both do the job in a filled buffer, and the whole buffers are compared: the bytes after the digest must stay too. */
-static int same(const char *way, work *a, work *b, size_t code, const uint8_t *message, size_t len)
+int same(const char *way, work *a, work *b, const struct job *job)
 {
-    struct job of_a = job_of(code, message, len), of_b = of_a;
+    struct job of_a = *job, of_b = *job;
 
     uint32_t answer_a = a(&of_a), answer_b = b(&of_b);
     if (answer_a == 0 && answer_b == 0 && memcmp(of_a.out, of_b.out, sizeof of_a.out) == 0)
         return 1;
 
-    printf("DIFFERENT: code %zu, %zu bytes, %s\n", code, len, way);
+    printf("DIFFERENT: code %zu, %zu bytes, %zu odd bits, %s\n", job->code, job->len, job->odd, way);
     print_out("archive", answer_a, &of_a);
     print_out("portable C", answer_b, &of_b);
     return 0;
@@ -84,12 +84,15 @@ static int check(const uint8_t *message)
         return 0;
     for (size_t i = 0; i < COUNT(WAYS); i++)
         for (size_t code = 1; code <= CODES; code++) {
-            for (size_t len = 0; len <= 200; len++, compared++)
-                if (!same(WAYS[i].name, WAYS[i].run, portable_c_digest, code, message, len))
+            struct job job = job_of(code, message, 0);
+            for (; job.len <= 200; job.len++, compared++)
+                if (!same(WAYS[i].name, WAYS[i].run, portable_c_digest, &job))
                     return 0;
-            for (size_t k = 0; k < COUNT(LARGER) && LARGER[k] <= WAYS[i].most; k++, compared++)
-                if (!same(WAYS[i].name, WAYS[i].run, portable_c_digest, code, message, LARGER[k]))
+            for (size_t k = 0; k < COUNT(LARGER) && LARGER[k] <= WAYS[i].most; k++, compared++) {
+                job.len = LARGER[k];
+                if (!same(WAYS[i].name, WAYS[i].run, portable_c_digest, &job))
                     return 0;
+            }
         }
     printf("the same digests: %zu, of 0 to %d bytes, at codes 1 to %d, in one call and fed\n", compared, LONGEST, CODES);
     return 1;
@@ -114,7 +117,8 @@ static int same_sheet(const char *call, struct luffa_sheet_answer answer, size_t
 /* A sheet that is built, changed at both ends and between, appended to and dropped from; each save claims the digest before it. */
 static int saved(size_t code, const uint8_t *message, size_t n)
 {
-    struct job job = sheet_job(code, message, n);
+    static struct sheet sheet;
+    struct job job = sheet_job(&sheet, code, message, n);
     struct sheet *s = job.sheet;
     const uint8_t *record = message + SHEET_RECORD * SHEET_MOST;
     const size_t places[] = {n - 1, n / 2, 0};
@@ -208,22 +212,25 @@ static void feeding(const uint8_t *message)
     }
 }
 
-/* Pieces so short that the record is nearly all of the work: a call for each byte of 64 KiB, so the cycles per byte are those per call.
-   Every 32nd of the single bytes runs a round; their start and finish are in it too, spread over all calls. */
+/* Pieces that complete no block, so that there is no round and the record or struct is nearly all of the work. The job is as long as there are
+   pieces, so the cycles per byte are those per call; the record's copying is in it, spread over the calls. */
 static void short_pieces(const uint8_t *message)
 {
-    static const struct length LENGTH = {PIECE, 1, 20};
-    static work *const RUNS[] = {archive_single_bytes, archive_empty_pieces};
+    static const size_t SIZES[] = {0, 1, 5, 31};
+    static const struct length LENGTH = {0, 200, 400};
+    static work *const RUNS[] = {archive_short_pieces, archive_hash_short_pieces};
 
-    printf("\nOne luffa_feed, cycles per call over %d calls, best timing of each, taken in turns\n\n", PIECE);
-    printf("code   1 byte   empty piece\n");
-    for (size_t code = 1; code <= CODES; code++) {
-        struct job job = job_of(code, message, LENGTH.len);
-        double best[COUNT(RUNS)];
-        race(RUNS, COUNT(RUNS), &job, &LENGTH, best);
-        printf("%4zu %8.1f %13.1f\n", code, best[0], best[1]);
-        fflush(stdout);
-    }
+    printf("\nOne feed that completes no block, cycles per call, best timing of each, taken in turns\n\n");
+    printf("code   bytes   luffa_feed   luffa_hash_feed\n");
+    for (size_t code = 1; code <= CODES; code++)
+        for (size_t i = 0; i < COUNT(SIZES); i++) {
+            struct job job = job_of(code, message, short_pieces_of(SIZES[i]));
+            double best[COUNT(RUNS)];
+            job.piece = SIZES[i];
+            race(RUNS, COUNT(RUNS), &job, &LENGTH, best);
+            printf("%4zu %7zu %12.1f %17.1f\n", code, job.piece, best[0], best[1]);
+            fflush(stdout);
+        }
 }
 
 /* The calls on a full sheet, against the digest of its bytes. */
@@ -239,7 +246,8 @@ static void sheets(const uint8_t *message)
     printf("\nSheet of 1,024 records, cycles per call and their ratio to the digest of its bytes, best timing of each, taken in turns\n\n");
     printf("code   call                cycles     ratio\n");
     for (size_t code = 1; code <= CODES; code++) {
-        struct job job = sheet_job(code, message, SHEET_MOST);
+        static struct sheet sheet;
+        struct job job = sheet_job(&sheet, code, message, SHEET_MOST);
         double best[COUNT(RUNS)];
         for (size_t k = 0; k < COUNT(RUNS); k++)
             if (RUNS[k](&job) != LUFFA_DONE) {
@@ -271,12 +279,13 @@ int main(int argc, char **argv)
     }
     fill(message, LONGEST);
 
-    if (!check(message) || !check_sheets(message) || !check_plans())
+    if (!check(message) || !check_bits(message) || !check_sheets(message) || !check_plans())
         return 1;
     if (!only_check) {
         digests(message);
         feeding(message);
         short_pieces(message);
+        bits(message);
         sheets(message);
         plans();
     }

@@ -31,6 +31,14 @@ static inline void race(work *const *runs, size_t count, struct job *job, const 
 
 static inline const char *verdict(double value, double bar) { return value <= bar ? "ok" : "MISSED"; }
 
+/* Whether both give the same, each on a copy of the job; else it is printed, the first as the archive's. */
+int same(const char *way, work *a, work *b, const struct job *job);
+
+/* -- Messages that stop inside a byte (bits.c) -- */
+
+int check_bits(const uint8_t *message);
+void bits(const uint8_t *message);
+
 /* -- What sheets mean (plans.c) -- */
 
 enum { PLANS_COUNT = 2, SIZES_MOST = 4 };

@@ -240,12 +240,12 @@ static void rounds(size_t w, uint32_t h[MOST_BLOCKS][8], const uint8_t *x, size_
     }
 }
 
-uint32_t portable_digest(size_t code, const uint8_t *message, size_t message_len, uint8_t *out, size_t out_len)
+uint32_t portable_digest_bits(size_t code, const uint8_t *message, size_t message_len, size_t odd, uint8_t *out, size_t out_len)
 {
     static const size_t WIDTH[] = {0, 3, 3, 4, 5}, DIGEST_WORDS[] = {0, 7, 8, 12, 16};
     uint32_t h[MOST_BLOCKS][8];
     uint8_t block[BLOCK_BYTES] = {0};
-    size_t whole = message_len / BLOCK_BYTES, rest = message_len % BLOCK_BYTES;
+    size_t bytes = message_len - (odd > 0), whole = bytes / BLOCK_BYTES, rest = bytes % BLOCK_BYTES;
 
     if (code < 1 || code > 4)
         return 1;
@@ -256,10 +256,12 @@ uint32_t portable_digest(size_t code, const uint8_t *message, size_t message_len
     memcpy(h, START, sizeof h);
     rounds(w, h, message, whole);
 
-    /* 3.1: the bytes left over, then 0x80, then zeros. */
+    /* 3.1: the bytes left over and the odd bits, then a bit 1, then zeros. */
     if (rest > 0)
         memcpy(block, message + whole * BLOCK_BYTES, rest);
-    block[rest] = 0x80;
+    if (odd > 0)
+        block[rest] = (uint8_t)(message[bytes] & ~(0xff >> odd));
+    block[rest] |= (uint8_t)(0x80 >> odd);
     rounds(w, h, block, 1);
 
     /* 3.3: a round with a zero block goes before each Z_i. */
@@ -273,4 +275,9 @@ uint32_t portable_digest(size_t code, const uint8_t *message, size_t message_len
         store(out + 4 * i, z);
     }
     return 0;
+}
+
+uint32_t portable_digest(size_t code, const uint8_t *message, size_t message_len, uint8_t *out, size_t out_len)
+{
+    return portable_digest_bits(code, message, message_len, 0, out, out_len);
 }

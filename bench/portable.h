@@ -1,5 +1,5 @@
-/* The portable C Luffa that the archive is compared with: one call, of the same form as luffa_digest of include/luffa.h, so that the
-   benchmark holds both in one type. */
+/* The portable C Luffa that the archive is compared with: calls of the same form as luffa_digest and luffa_digest_bits of include/luffa.h, so
+   that the benchmark holds both in one type. */
 #ifndef PORTABLE_H
 #define PORTABLE_H
 
@@ -8,5 +8,8 @@
 
 /* 0 = done; 1 = the code isn't 1 to 4; 2 = the output buffer is shorter than the digest. */
 uint32_t portable_digest(size_t code, const uint8_t *message, size_t message_len, uint8_t *out, size_t out_len);
+
+/* The same of a message whose last byte has odd bits. They are 0 to 7, and 0 where there is no byte; that isn't judged. */
+uint32_t portable_digest_bits(size_t code, const uint8_t *message, size_t message_len, size_t odd, uint8_t *out, size_t out_len);
 
 #endif

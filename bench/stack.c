@@ -1,5 +1,6 @@
 /* The stack of each call. */
 #include "bench.h"
+#include "bits.h"
 #include "wells.h"
 
 #include <stdio.h>
@@ -69,32 +70,38 @@ static size_t own_stack(work *run, const struct job *job) { return most_touched(
 
 static int stack_line(const char *name, size_t most, size_t bar)
 {
-    printf("%-18s %6zu   at most %zu: %s\n", name, most, bar, verdict((double)most, (double)bar));
+    printf("%-20s %6zu   at most %zu: %s\n", name, most, bar, verdict((double)most, (double)bar));
     return most <= bar;
 }
 
-/* The most stack of each call over codes, lengths and bytes held in the record; of the sheet calls, over codes and numbers of records. */
+/* The most stack of each call over codes, lengths and bytes held in the record; of the sheet calls, over codes and numbers of records. A record
+   to finish has odd bits, one to feed can't. */
 int stacks(const uint8_t *message)
 {
     static const struct {
         const char *name;
         work *run;
+        int of_ended;
     } CALLS[] = {
-        {"luffa_digest", archive_digest},
-        {"luffa_start", archive_start},
-        {"luffa_feed", archive_feed},
-        {"luffa_finish", archive_finish},
-        {"luffa_hash_start", archive_hash_start},
-        {"luffa_hash_feed", archive_hash_feed},
-        {"luffa_hash_finish", archive_hash_finish},
+        {"luffa_digest", archive_digest, 0},
+        {"luffa_digest_bits", archive_digest_bits, 0},
+        {"luffa_start", archive_start, 0},
+        {"luffa_feed", archive_feed, 0},
+        {"luffa_feed_bits", archive_feed_bits, 0},
+        {"luffa_finish", archive_finish, 1},
+        {"luffa_hash_start", archive_hash_start, 0},
+        {"luffa_hash_feed", archive_hash_feed, 0},
+        {"luffa_hash_feed_bits", archive_hash_feed_bits, 0},
+        {"luffa_hash_finish", archive_hash_finish, 1},
     }, SHEET_CALLS[] = {
-        {"luffa_sheet_build", archive_build},
-        {"luffa_sheet_change", archive_change_middle},
-        {"luffa_sheet_append", archive_append},
-        {"luffa_sheet_drop", archive_drop},
+        {"luffa_sheet_build", archive_build, 0},
+        {"luffa_sheet_change", archive_change_middle, 0},
+        {"luffa_sheet_append", archive_append, 0},
+        {"luffa_sheet_drop", archive_drop, 0},
     };
     static const size_t LENGTHS[] = {0, 1, 31, 32, 33, 63, 64, 65, 200, 4096, 65537}, HELD[] = {0, 1, 16, 31, 32};
     static const size_t RECORDS[] = {1, 2, 3, 4, 5, 9, 1023, SHEET_MOST};
+    static struct sheet sheet;
     static struct batch batch;
     int ok = 1;
 
@@ -109,6 +116,12 @@ int stacks(const uint8_t *message)
                     archive_feed(&job);
                     archive_hash_feed(&job);
                     job.len = LENGTHS[n];
+                    /* Without a byte there are none. */
+                    job.odd = job.len > 0 ? 3 : 0;
+                    if (CALLS[i].of_ended) {
+                        archive_feed_bits(&job);
+                        archive_hash_feed_bits(&job);
+                    }
                     size_t own = own_stack(CALLS[i].run, &job);
                     most = own > most ? own : most;
                 }
@@ -118,7 +131,7 @@ int stacks(const uint8_t *message)
         size_t most = 0;
         for (size_t code = 1; code <= CODES; code++)
             for (size_t n = 0; n < COUNT(RECORDS); n++) {
-                struct job job = sheet_job(code, message, RECORDS[n]);
+                struct job job = sheet_job(&sheet, code, message, RECORDS[n]);
                 size_t own = own_stack(SHEET_CALLS[i].run, &job);
                 most = own > most ? own : most;
             }

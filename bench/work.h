@@ -3,26 +3,26 @@
 #define WORK_H
 
 #include "luffa.h"
+#include "works.h"
 
 #include <string.h>
 #include <x86intrin.h>
 
-#define COUNT(array) (sizeof(array) / sizeof(array)[0])
-
-enum { CODES = 4, MOST_DIGEST_BYTES = 64, LONGEST = 1 << 20, PIECE = 1 << 16, FILL = 0xa5 };
+enum { PIECE = 1 << 16, BLOCK = 32 };
 enum { SHEET_RECORD = LUFFA_SHEET_RECORD_BYTES, SHEET_MOST = LUFFA_SHEET_MOST, MARKS_MOST = LUFFA_MARKS_FOR(SHEET_MOST) };
 
 static const size_t DIGEST_BYTES[CODES + 1] = {0, LUFFA_224_BYTES, LUFFA_256_BYTES, LUFFA_384_BYTES, LUFFA_512_BYTES};
 
-/* What a measured thing is given: a code, a message, room for the digest, a record and a struct in its place; for a sheet call, the sheet
-   whose records are the message; for a call on what sheets mean, the batch whose wells are. */
+/* What a measured thing is given: a code, a message with its odd bits, room for the digest, a record and a struct in its place, both once more
+   as they were started, and the bytes of a short piece; for a sheet call, the sheet whose records are the message; for a call on what sheets
+   mean, the batch whose wells are. */
 struct job {
     size_t code;
     const uint8_t *message;
-    size_t len;
+    size_t len, odd, piece;
     uint8_t out[MOST_DIGEST_BYTES];
-    uint8_t record[LUFFA_RECORD_BYTES];
-    struct luffa_hash hash;
+    uint8_t record[LUFFA_RECORD_BYTES], started_record[LUFFA_RECORD_BYTES];
+    struct luffa_hash hash, started_hash;
     struct sheet *sheet;
     struct batch *batch;
 };
@@ -42,11 +42,12 @@ static inline struct job job_of(size_t code, const uint8_t *message, size_t len)
     memset(job.out, FILL, sizeof job.out);
     luffa_start(code, job.record, sizeof job.record);
     luffa_hash_start(code, &job.hash);
+    memcpy(job.started_record, job.record, sizeof job.record);
+    job.started_hash = job.hash;
     return job;
 }
 
-/* A measured thing: it does the whole job once and gives the call's answer. Each has a function of its own, below. */
-typedef uint32_t work(struct job *job);
+/* -- The works: each has a function of its own -- */
 
 static inline uint32_t archive_digest(struct job *job)
 {
@@ -81,13 +82,29 @@ static inline uint32_t archive_one_piece(struct job *job) { return in_pieces(job
 static inline uint32_t archive_64_kib_pieces(struct job *job) { return in_pieces(job, PIECE); }
 static inline uint32_t archive_single_bytes(struct job *job) { return in_pieces(job, 1); }
 
-/* As many empty pieces as the message has bytes. */
-static inline uint32_t archive_empty_pieces(struct job *job)
+/* The most pieces of a size that a started record takes without a round; of empty ones, as many as of single bytes. */
+static inline size_t short_pieces_of(size_t size) { return size > 0 ? (BLOCK - 1) / size : BLOCK - 1; }
+
+/* As many short pieces as the job is long, into a record that was just started. It is copied from the one in the job: a start would be more
+   than some of the feeds. */
+static inline uint32_t archive_short_pieces(struct job *job)
 {
     uint32_t answer = LUFFA_DONE;
 
+    memcpy(job->record, job->started_record, sizeof job->record);
     for (size_t i = 0; i < job->len; i++)
-        answer |= luffa_feed(job->record, sizeof job->record, job->message, 0);
+        answer |= luffa_feed(job->record, sizeof job->record, job->message + i * job->piece, job->piece);
+    return answer;
+}
+
+/* The same over the struct. */
+static inline uint32_t archive_hash_short_pieces(struct job *job)
+{
+    uint32_t answer = LUFFA_DONE;
+
+    job->hash = job->started_hash;
+    for (size_t i = 0; i < job->len; i++)
+        answer |= luffa_hash_feed(&job->hash, job->message + i * job->piece, job->piece);
     return answer;
 }
 
@@ -138,55 +155,28 @@ static inline uint32_t archive_drop(struct job *job)
 }
 
 /* A job on a sheet of n records, with true marks. */
-static inline struct job sheet_job(size_t code, const uint8_t *message, size_t n)
+static inline struct job sheet_job(struct sheet *sheet, size_t code, const uint8_t *message, size_t n)
 {
-    static struct sheet sheet;
     struct job job = job_of(code, message, SHEET_RECORD * n);
 
-    job.sheet = &sheet;
-    sheet.n = n;
-    memcpy(sheet.records, message, SHEET_RECORD * n);
+    job.sheet = sheet;
+    sheet->n = n;
+    memcpy(sheet->records, message, SHEET_RECORD * n);
     archive_digest(&job);
-    memcpy(sheet.digest, job.out, sizeof sheet.digest);
+    memcpy(sheet->digest, job.out, sizeof sheet->digest);
     if (n > 0) {
         job.len -= SHEET_RECORD;
         archive_digest(&job);
         job.len += SHEET_RECORD;
     }
-    memcpy(sheet.without_last, job.out, sizeof sheet.without_last);
+    memcpy(sheet->without_last, job.out, sizeof sheet->without_last);
     archive_build(&job);
-    memcpy(sheet.last_mark, sheet.marks + LUFFA_MARK_WORDS * (n / 4), sizeof sheet.last_mark);
+    memcpy(sheet->last_mark, sheet->marks + LUFFA_MARK_WORDS * (n / 4), sizeof sheet->last_mark);
     memset(job.out, FILL, sizeof job.out);
     return job;
 }
 
-/* -- What compare measures -- */
-
-/* A work with its name, the bytes of the message or the records of the sheet, and the calls in one timing. */
-struct measured {
-    const char *name;
-    work *run;
-    size_t len, records;
-    unsigned calls;
-};
-
-/* works.c, linked with an archive: its works in order, the last without a name, and the job of one at a code. */
-typedef const struct measured *measured_works(void);
-typedef struct job measured_job(const struct measured *m, size_t code, const uint8_t *message);
-measured_works works;
-measured_job prepared;
-
-/* -- The message and the clock -- */
-
-/* Any bytes will do for the clock. For a comparison no two blocks should be alike, and each run should have the same. */
-static inline void fill(uint8_t *message, size_t len)
-{
-    uint32_t x = 1;
-    for (size_t i = 0; i < len; i++) {
-        x = x * 1664525 + 1013904223;
-        message[i] = (uint8_t)(x >> 24);
-    }
-}
+/* -- The clock -- */
 
 /* The fences keep work from slipping over a reading of the clock. */
 static inline uint64_t timing(work *run, struct job *job, unsigned calls)

@@ -1,0 +1,19 @@
+/* The works on a message that stops inside a byte: its last byte has the job's odd bits. */
+#ifndef BITS_H
+#define BITS_H
+
+#include "work.h"
+
+static inline uint32_t archive_digest_bits(struct job *job)
+{
+    return luffa_digest_bits(job->code, job->message, job->len, job->odd, job->out, sizeof job->out);
+}
+
+static inline uint32_t archive_feed_bits(struct job *job)
+{
+    return luffa_feed_bits(job->record, sizeof job->record, job->message, job->len, job->odd);
+}
+
+static inline uint32_t archive_hash_feed_bits(struct job *job) { return luffa_hash_feed_bits(&job->hash, job->message, job->len, job->odd); }
+
+#endif
