@@ -42,7 +42,7 @@ fn met_by_callers() {
     record[200..].copy_from_slice(&(Luffa256::MOST_BITS / 8).to_be_bytes());
     let mut hash = Luffa256::from_record(&record).unwrap();
     assert_eq!(hash.try_update("a"), Err(Error::Long));
-    assert_eq!(hash.finalize_bits("a", 8), Err(Error::Odd));
+    assert_eq!(hash.finalize_bits("abc", 8), Err(Error::Odd));
     assert_eq!(Digest::of_bits(code, "", 1), Err(Error::Odd));
     let over = Sheet::from_records(code, &[[0; 40]; 1025]);
     assert_eq!(over.err(), Some(Error::Sheet));

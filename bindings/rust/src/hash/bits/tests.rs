@@ -171,7 +171,8 @@ macro_rules! tests_of {
                     assert_eq!(hash.to_record_bits([0, 0xff], odd), Err(Error::Long));
                 }
                 assert_eq!(hash.clone().finalize_bits([0xff], 0), Err(Error::Long));
-                assert_eq!(hash.finalize_bits([0xff], 8), Err(Error::Odd));
+                // Both hold: the odd bits are judged first.
+                assert_eq!(hash.finalize_bits("abc", 8), Err(Error::Odd));
             }
         }
     };
