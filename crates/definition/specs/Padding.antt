@@ -37,7 +37,7 @@ unfoldable pub bitsOf : List ℕ → List ℕ
 bitsOf [] = []
 bitsOf (a ∷ m) = bitsOfByte a ++ bitsOf m
 
--- document 02, Q-7: with odd bits the last byte holds them, and "the whole bytes are one fewer"
+-- document 02, Q-7: the byte with the odd bits "is the last of its piece", so that the whole bytes are one fewer
 unfoldable pub wholeBytes : (odd bytes : ℕ) → ℕ
 wholeBytes zero n = n
 wholeBytes (suc o) n = n - 1

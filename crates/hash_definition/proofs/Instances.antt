@@ -121,7 +121,7 @@ nearly-sound = record { words = five-words _ (start-words (widthAt 2)); buffer =
 pub none-fed-lent : lentFeedOutcome nearly [] ≡ taken nearly
 none-fed-lent = lent-empty nearly nearly-sound refl
 
--- "at code 1 and count 2^61 - 1 a byte that holds 1 to 7 odd bits is still taken, a whole byte isn't": lent-feed-done, lent-feed-long
+-- at code 1 and count 2^61 - 1 a byte that holds seven odd bits is still taken, and a whole byte isn't: lent-feed-done, lent-feed-long
 full-kept : wellKept full ≡ true
 unfolding everything started wellKept wellHeld heldOf allZero countOf
 full-kept = refl

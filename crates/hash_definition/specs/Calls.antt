@@ -26,7 +26,7 @@ outcome rs after before = record { number = firstOf rs; buffer = whenDone (first
 unfoldable pub oddRefusal : (held odd pieceLength : ℕ) → Refusal
 oddRefusal held odd pieceLength = (ODD, not (eqb held 0) || ltb 7 odd || (not (eqb odd 0) && eqb pieceLength 0))
 
--- 4: "by Table 1 in bits": the whole bytes so far, the piece's and its odd bits reach the limit
+-- 4: "4 and a well-formed count follow Table 1 in bits": the whole bytes so far, the piece's and its odd bits reach the limit
 unfoldable pub longRefusal : (code count odd pieceLength : ℕ) → Refusal
 longRefusal code count odd pieceLength = (LONG, leb (limitAt code) (8 * (count + wholeBytes odd pieceLength) + odd))
 

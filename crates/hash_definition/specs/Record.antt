@@ -148,7 +148,7 @@ ended k odd byte =
       low = k .low;
     }
 
--- "The last piece may end with 1 to 7 bits", "That byte is the last of its piece": the whole bytes are fed, and the odd bits end the message
+-- the last piece "may end with 1 to 7 bits", "That byte is the last of its piece": the whole bytes are fed, and the odd bits end the message
 unfoldable pub fedBits : Kept → (piece : List ℕ) → (odd : ℕ) → Kept
 fedBits k piece zero = fed k piece
 fedBits k piece (suc o) = ended (fed k (take (length piece - 1) piece)) (suc o) (getD piece (length piece - 1) 0)
