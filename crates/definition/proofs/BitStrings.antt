@@ -1,5 +1,5 @@
 -- A string of bytes is the bit string of their bits, and padded as bytes it is padded as bits: the closing byte is the odd bits, the padding
--- bit and zeros. So the digest of a bit string is that of its whole bytes under its closing byte.
+-- bit and zeros. So the output of a bit string is that of its whole bytes under its closing byte.
 -- Assumes nothing.
 use mathlib.Core.Path.{_≡_, refl, sym, ap, ap₂, _∙_}
 use mathlib.Core.List.{List, [], _∷_, _++_, append-assoc}
@@ -15,7 +15,7 @@ use Rattle.definition.specs.Round.{chain}
 use Rattle.definition.specs.Width.{widthAt}
 use Rattle.definition.specs.Padding.{paddedBits, byteOf, bytesTo, bytesIn, lowBits, bitsOfByte, bitsOf, wholeBytes, bitsIn, highBits, closingByte, closing, padding, padded, blocks}
 use Rattle.definition.specs.Start.{start}
-use Rattle.definition.specs.Luffa.{digestOf, digestOfBits, luffaOfBits, digestAfter, luffa}
+use Rattle.definition.specs.Luffa.{wordsAt, outputOf, outputOfBits, luffaOutput, luffaOfBits, digestAfter, luffa}
 use Rattle.definition.proofs.Bits.{fromBits-bit, bit-shl, bit-below}
 
 -- bytes one after the other, and how many bits they have
@@ -143,33 +143,41 @@ padded-bits p n o h l =
     )
     (ap (λ (y : List ℕ). bitsOf x ++ y) (closing-end o (getD p n 0) (31 - n % 32) h))
 
--- so the digest of a bit string that bytes hold is that of its whole bytes under its closing byte
-pub digest-bits : (code : ℕ) (h : List Block) (p : List ℕ) (n o : ℕ) → o ≤ 7 → 8 * n + o ≤ 8 * length p
-    → digestOfBits code h (take (8 * n + o) (bitsOf p))
-    ≡ digestOf code (chain (widthAt code) h (blocks (padded (closingByte o (getD p n 0)) (take n p))))
-unfolding digestOfBits
-digest-bits code h p n o l m = rw (padded-bits p n o l m, bytes-of-bits (padded (closingByte o (getD p n 0)) (take n p)))
+-- so the output of a bit string that bytes hold is that of its whole bytes under its closing byte
+pub output-bits : (code words : ℕ) (h : List Block) (p : List ℕ) (n o : ℕ) → o ≤ 7 → 8 * n + o ≤ 8 * length p
+    → outputOfBits code words h (take (8 * n + o) (bitsOf p))
+    ≡ outputOf code words (chain (widthAt code) h (blocks (padded (closingByte o (getD p n 0)) (take n p))))
+unfolding outputOfBits
+output-bits code words h p n o l m = rw (padded-bits p n o l m, bytes-of-bits (padded (closingByte o (getD p n 0)) (take n p)))
 
 -- all bits of whole bytes
 pub bits-whole : (x : List ℕ) → take (8 * length x + 0) (bitsOf x) ≡ bitsOf x
 bits-whole x = take-all (8 * length x + 0) (bitsOf x) (omega (arith, length-bits x))
 
 -- and of a message of whole bytes
-pub digest-bytes : (code : ℕ) (h : List Block) (x : List ℕ)
-    → digestAfter code h x ≡ digestOf code (chain (widthAt code) h (blocks (padded closing x)))
-unfolding digestAfter
-digest-bytes code h x =
-    ap (digestOfBits code h) (sym (bits-whole x)) ∙ digest-bits code h x (length x) 0 (omega arith) (omega arith)
+pub output-bytes : (code words : ℕ) (h : List Block) (x : List ℕ)
+    → outputOfBits code words h (bitsOf x) ≡ outputOf code words (chain (widthAt code) h (blocks (padded closing x)))
+output-bytes code words h x =
+    ap (outputOfBits code words h) (sym (bits-whole x)) ∙ output-bits code words h x (length x) 0 (omega arith) (omega arith)
     ∙ unfold closingByte highBits in rw (take-all (length x) x (le-refl (length x)))
 
-pub luffa-bytes : (code : ℕ) (m : List ℕ) → luffa code m ≡ digestOf code (chain (widthAt code) (start (widthAt code)) (blocks (padded closing m)))
-unfolding luffa luffaOfBits digestAfter
-luffa-bytes code m = digest-bytes code (start (widthAt code)) m
+pub digest-bytes : (code : ℕ) (h : List Block) (x : List ℕ)
+    → digestAfter code h x ≡ outputOf code (wordsAt code) (chain (widthAt code) h (blocks (padded closing x)))
+unfolding digestAfter
+digest-bytes code h x = output-bytes code (wordsAt code) h x
+
+pub luffa-bytes : (code : ℕ) (m : List ℕ) → luffa code m ≡ outputOf code (wordsAt code) (chain (widthAt code) (start (widthAt code)) (blocks (padded closing m)))
+unfolding luffa luffaOfBits luffaOutput
+luffa-bytes code m = output-bytes code (wordsAt code) (start (widthAt code)) m
 
 -- no odd bits: whole bytes
+pub bits-none : (m : List ℕ) → bitsIn m 0 ≡ bitsOf m
+unfolding bitsIn wholeBytes
+bits-none m = bits-whole m
+
 pub luffa-whole : (code : ℕ) (m : List ℕ) → luffaOfBits code (bitsIn m 0) ≡ luffa code m
-unfolding luffa bitsIn wholeBytes
-luffa-whole code m = ap (luffaOfBits code) (bits-whole m)
+unfolding luffa
+luffa-whole code m = ap (luffaOfBits code) (bits-none m)
 
 -- the bits of a message that ends with odd bits, where it has a byte for them
 pub length-bits-in : (m : List ℕ) (odd : ℕ) → odd ≤ 7 → (0 < odd → 0 < length m) → length (bitsIn m odd) ≡ 8 * wholeBytes odd (length m) + odd

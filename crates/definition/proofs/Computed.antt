@@ -12,11 +12,11 @@ use Rattle.definition.specs.Padding.{paddedBits, byteOf, bytesTo, bytesI
 use Rattle.definition.specs.Width.{blockCount, widthAt}
 use Rattle.definition.specs.Start.{startingVariables, start}
 use Rattle.definition.specs.Final.{outputs, finalRounds, final}
-use Rattle.definition.specs.Luffa.{wordsAt, bytesAt, limitAt, digestOf, digestOfBits, luffaOfBits, digestAfter, luffa}
+use Rattle.definition.specs.Luffa.{wordsAt, bytesAt, limitAt, outputOf, outputOfBits, luffaOutput, luffaOfBits, digestAfter, luffa}
 use Rattle.definition.specs.Refusal.{pick, firstOf, numbersOf, conditionOf, whenDone, known, widthRefusal, outRefusal}
 use Rattle.definition.specs.State.{five, blocksIn, stateOf}
 use Rattle.definition.specs.Buffer.{overwriteAt}
 
 unfoldable pub everything : Unit {0}
-unfolding bit fromBits rotl wordOf bytesOf bytesOfAll _⊕_ xorAll wordsOf wordAt blockOf double keep timesTo times element timesX multiple product carryless remainder matrix row inject S sboxInput subWord subCrumb mixWord polynomial g fL tL exchanged constantsFrom initial constants tweak subCrumbs mixWords addConstant step steps permute permuteFrom round chain paddedBits byteOf bytesTo bytesIn lowBits bitsOfByte bitsOf wholeBytes bitsIn highBits closingByte padding padded blocksTo blocks blockCount startingVariables start outputs finalRounds final widthAt wordsAt bytesAt limitAt digestOf digestOfBits luffaOfBits digestAfter luffa pick firstOf numbersOf conditionOf known widthRefusal outRefusal five blocksIn stateOf overwriteAt wordsOfAll whenDone
+unfolding bit fromBits rotl wordOf bytesOf bytesOfAll _⊕_ xorAll wordsOf wordAt blockOf double keep timesTo times element timesX multiple product carryless remainder matrix row inject S sboxInput subWord subCrumb mixWord polynomial g fL tL exchanged constantsFrom initial constants tweak subCrumbs mixWords addConstant step steps permute permuteFrom round chain paddedBits byteOf bytesTo bytesIn lowBits bitsOfByte bitsOf wholeBytes bitsIn highBits closingByte padding padded blocksTo blocks blockCount startingVariables start outputs finalRounds final widthAt wordsAt bytesAt limitAt outputOf outputOfBits luffaOutput luffaOfBits digestAfter luffa pick firstOf numbersOf conditionOf known widthRefusal outRefusal five blocksIn stateOf overwriteAt wordsOfAll whenDone
 everything = tt

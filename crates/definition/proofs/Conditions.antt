@@ -1,9 +1,14 @@
--- What two conditions joined say of each, and what a condition says that fails exactly at a statement.
+-- What two conditions joined say of each, what a condition says that fails exactly at a statement, and a test of a length divided.
 -- Assumes nothing.
-use mathlib.Core.Path.{_≡_, refl, sym}
+use mathlib.Core.Path.{_≡_, refl, sym, _∙_}
 use mathlib.Core.Logic.{_↔_}
 use mathlib.Core.Bool.{Bool, true, false, _&&_, _||_, false≢true}
-use lib.Dec.{T}
+use Prim.Native.Nat.{ℕ, _*_, _/_, _<_}
+use native.Mathlib.Decide.{decLt}
+use native.Mathlib.Nat.{mul-comm, div-lt-iff-lt-mul}
+use native.Mathlib.Omega.{arith}
+use lib.Dec.{T, ltb}
+use borrow.Author.Tests.{lt-ltb, le-ltb}
 
 -- both hold, as tests that pass
 pub both-left : (a b : Bool) → T (a && b) → T a
@@ -28,3 +33,14 @@ either-false false b e = (refl, e)
 pub other-way : {A : Type 0} (b : Bool) → (b ≡ false) ↔ A → (b ≡ true) ↔ (A → ⊥)
 other-way true i = (λ e a. false≢true (sym (i .1 a)), λ f. refl)
 other-way false i = (λ e. absurd (false≢true e), λ f. absurd (f (i .0 refl)))
+
+-- a length divided by d is below n where the length is below d times n: so a call judges without a product that could wrap
+pub divided : (d a n : ℕ) → 0 < d → ltb (a / d) n ≡ ltb a (d * n)
+divided d a n h =
+    elim (decLt (a / d) n) [
+      | yes p ↦ lt-ltb (a / d) n p ∙ sym (lt-ltb a (d * n) (rw (mul-comm d n) (div-lt-iff-lt-mul h .0 p)))
+      | no p ↦ le-ltb (a / d) n (omega arith) ∙ sym (le-ltb a (d * n) (elim (decLt a (d * n)) [
+        | yes q ↦ absurd (p (div-lt-iff-lt-mul h .1 (rw (mul-comm d n) at q)))
+        | no q ↦ omega arith
+      ]))
+    ]

@@ -16,6 +16,7 @@ pub mod Buffer
 pub mod Codes
 pub mod Refusals
 pub mod Final
+pub mod Output
 pub mod Bounds
 pub mod Determined
 pub mod Computed

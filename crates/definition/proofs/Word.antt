@@ -1,12 +1,13 @@
 -- Four bytes and a word are each other's reading; and the bytes of a list of words.
 -- Assumes nothing.
-use mathlib.Core.Path.{_≡_, refl}
+use mathlib.Core.Path.{_≡_, refl, sym, ap, _∙_}
 use mathlib.Core.List.{List, [], _∷_, _++_, append-assoc, append-nil}
-use Prim.Native.Nat.{ℕ, _+_, _*_, _/_, _%_, _^_, _<_}
+use Prim.Native.Nat.{ℕ, _+_, _*_, _/_, _%_, _^_, _<_, _≤_}
 use native.Mathlib.Nat.{div-add-mod', mod-eq-of-lt}
 use native.Mathlib.Omega.{arith}
-use lib.ListN.{length}
+use lib.ListN.{length, take, drop, take-append-drop}
 use lib.Pow.{shr-shr, shr-lt}
+use lib.Seq.{take-at, length-take-le}
 use Rattle.definition.specs.Word.{wordOf, bytesOf, bytesOfAll}
 
 list4 : {a b c d a' b' c' d' : ℕ} → a ≡ a' → b ≡ b' → c ≡ c' → d ≡ d'
@@ -43,3 +44,10 @@ bytes-append (a ∷ vs) ws = rw (bytes-append vs ws, append-assoc (bytesOf a) (b
 pub bytes-snoc : (ws : List ℕ) (a : ℕ) → bytesOfAll (ws ++ a ∷ []) ≡ bytesOfAll ws ++ bytesOf a
 unfolding bytesOfAll
 bytes-snoc ws a = rw (bytes-append ws (a ∷ []), append-nil (bytesOf a))
+
+-- and of the first words
+pub bytes-take : (n : ℕ) (ws : List ℕ) → n ≤ length ws → take (4 * n) (bytesOfAll ws) ≡ bytesOfAll (take n ws)
+bytes-take n ws h =
+    ap (λ (x : List ℕ). take (4 * n) (bytesOfAll x)) (sym (take-append-drop n ws))
+    ∙ ap (take (4 * n)) (bytes-append (take n ws) (drop n ws))
+    ∙ take-at (bytesOfAll (take n ws)) _ (4 * n) (omega (arith, length-bytes (take n ws), length-take-le n ws h))

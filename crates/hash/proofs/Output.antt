@@ -14,9 +14,9 @@ use Rattle.definition.specs.State.{blocksIn, stateOf}
 use Rattle.definition.specs.Padding.{wholeBytes, bitsIn, closing, closingByte, highBits, padded, blocks}
 use Rattle.definition.specs.Final.{final}
 use Rattle.definition.specs.Width.{widthAt}
-use Rattle.definition.specs.Luffa.{wordsAt, digestOf, luffaOfBits}
+use Rattle.definition.specs.Luffa.{wordsAt, outputOf, luffaOutput, luffaOfBits}
 use Rattle.definition.proofs.Chain.{blocks-of-start}
-use Rattle.definition.proofs.BitStrings.{digest-bits}
+use Rattle.definition.proofs.BitStrings.{output-bits}
 use Rattle.hash_definition.specs.Said.{Ends}
 
 -- a message has the bits that its whole bytes and the odd bits are
@@ -30,9 +30,9 @@ pub whole-message : (code : ℕ) (m : List ℕ) (odd n byte : ℕ) (s : State) �
     → n ≡ wholeBytes odd (length m) → byte ≡ closingByte odd (getD m n 0)
     → bytesOfAll (final (widthAt code) (wordsAt code) (chain (widthAt code) (blocksIn (widthAt code) s) (blocks (padded byte (take n m)))))
     ≡ luffaOfBits code (bitsIn m odd)
-unfolding digestOf luffaOfBits bitsIn
+unfolding outputOf luffaOutput luffaOfBits bitsIn
 whole-message code m odd n byte s e o w b =
-    rw (e, blocks-of-start, b, w) (sym (digest-bits code (start (widthAt code)) m (wholeBytes odd (length m)) odd (o .0) (enough odd (length m) o)))
+    rw (e, blocks-of-start, b, w) (sym (output-bits code (wordsAt code) (start (widthAt code)) m (wholeBytes odd (length m)) odd (o .0) (enough odd (length m) o)))
 
 -- a message whose bytes are all whole has no odd bits
 pub closing-whole : (odd n x : ℕ) → (0 < odd → 0 < n) → n ≤ wholeBytes odd n → closing ≡ closingByte odd x

@@ -31,7 +31,7 @@ pub fn digest_bits(code: usize, message: &[u8], odd: usize, out: &mut [u8]) -> u
         low: 0,
     };
     let size = refusals::first(
-        refusals::out(4 * words, out.len()),
+        refusals::out(words, out.len()),
         hash_kept::piece(code, none, odd, message.len()),
     );
     let number = refusals::first(refusals::width(code), size);

@@ -18,11 +18,11 @@ use Rattle.definition.specs.Width.{widthAt}
 use Rattle.definition.specs.Start.{start}
 use Rattle.definition.specs.State.{blocksIn}
 use Rattle.definition.specs.Buffer.{overwriteAt}
-use Rattle.definition.specs.Luffa.{limitAt, digestOf, luffaOfBits}
-use Rattle.hash_definition.specs.Record.{countOf, bytesFed, pendingCount, pendingBytes, pendingBits, allZero, started, fed, ended, fedBits, finished}
+use Rattle.definition.specs.Luffa.{wordsAt, limitAt, outputOf, luffaOutput, luffaOfBits}
+use Rattle.hash_definition.specs.Record.{countOf, bytesFed, pendingCount, pendingBytes, pendingBits, allZero, started, fed, ended, fedBits, outputFrom, finished}
 use Rattle.hash_definition.specs.Said.{Ends}
 use Rattle.definition.proofs.Buffer.{length-overwriteAt, take-overwriteAt, drop-overwriteAt}
-use Rattle.definition.proofs.BitStrings.{digest-bits, luffa-bytes, luffa-whole}
+use Rattle.definition.proofs.BitStrings.{output-bits, output-bytes, bits-none}
 use Rattle.hash_definition.proofs.Zeros.{zero-next, zero-from-bit, high-low}
 use Rattle.hash_definition.proofs.Feeding.{WellKept, well-kept, kept-well, Sound, zeros-after, fed-fed, fed-odd, fed-count, fed-code, fed-pending, fed-sound, keptOf, kept-closed}
 
@@ -115,12 +115,12 @@ fed-bits-fed k y z (suc o) l e =
     let m : length (y ++ z) - 1 ≡ length y + n = omega (arith, length-append y z) in
     rw (m, take-append-add y z n, getD-append-add y z n 0, fed-fed k y (take n z) l)
 
--- finishing closes the pending bytes with the byte that holds the odd bits
-pub finished-closed : (k : Kept) → length (k .pending) ≡ 32 → k .odd ≤ 7
-    → finished k
-    ≡ digestOf (k .code) (chain (widthAt (k .code)) (blocksIn (widthAt (k .code)) (k .state)) (blocks (padded (closingByte (k .odd) (getD (k .pending) (pendingCount k) 0)) (pendingBytes k))))
-unfolding finished pendingBits pendingBytes
-finished-closed k l h = digest-bits (k .code) _ (k .pending) (pendingCount k) (k .odd) h (omega (arith, pending-lt k))
+-- the final stage closes the pending bytes with the byte that holds the odd bits
+pub output-closed : (k : Kept) (words : ℕ) → length (k .pending) ≡ 32 → k .odd ≤ 7
+    → outputFrom k words
+    ≡ outputOf (k .code) words (chain (widthAt (k .code)) (blocksIn (widthAt (k .code)) (k .state)) (blocks (padded (closingByte (k .odd) (getD (k .pending) (pendingCount k) 0)) (pendingBytes k))))
+unfolding outputFrom pendingBits pendingBytes
+output-closed k words l h = output-bits (k .code) words _ (k .pending) (pendingCount k) (k .odd) h (omega (arith, pending-lt k))
 
 -- the bits that feeding ignores are no part of the closing byte
 closing-high : (o b : ℕ) → closingByte o (highBits o b) ≡ closingByte o b
@@ -128,22 +128,33 @@ unfolding closingByte highBits
 closing-high zero b = refl
 closing-high (suc o) b = ap (λ (q : ℕ). q * 2 ^ (7 - o) + 2 ^ (7 - suc o)) (shl-shr (b / 2 ^ (7 - o)) (7 - o))
 
--- finishing gives Luffa of the bit string
-pub kept-finished : (code : ℕ) (m : List ℕ) (odd : ℕ) → Ends odd m → finished (fedBits (started code) m odd) ≡ luffaOfBits code (bitsIn m odd)
-unfolding fedBits fed started ended closingByte highBits pendingBytes pendingCount bytesFed luffaOfBits bitsIn wholeBytes
-kept-finished code m zero e =
-    finished-closed (keptOf code m) (fed-pending (started code) m) (omega arith)
-    ∙ ap (digestOf code) (kept-closed closing code m)
-    ∙ sym (luffa-whole code m ∙ luffa-bytes code m)
-kept-finished code m (suc o) e =
+-- the output of what a message leads to is Luffa's output of the bit string
+pub kept-output : (code words : ℕ) (m : List ℕ) (odd : ℕ) → Ends odd m → outputFrom (fedBits (started code) m odd) words ≡ luffaOutput code words (bitsIn m odd)
+unfolding fedBits fed started ended closingByte highBits pendingBytes pendingCount bytesFed luffaOutput bitsIn wholeBytes
+kept-output code words m zero e =
+    output-closed (keptOf code m) words (fed-pending (started code) m) (omega arith)
+    ∙ ap (outputOf code words) (kept-closed closing code m)
+    ∙ sym (ap (luffaOutput code words) (bits-none m) ∙ output-bytes code words (start (widthAt code)) m)
+kept-output code words m (suc o) e =
     let n : ℕ = length m - 1 in
     let w : Width = widthAt code in
     let k : Kept = keptOf code (take n m) in
     let l : length (k .pending) ≡ 32 = fed-pending (started code) (take n m) in
     let b : ℕ = getD m n 0 in
-    finished-closed (ended k (suc o) b) (ended-length k (suc o) b l) (e .0)
-    ∙ ap₂ (λ (c : ℕ) (y : List ℕ). digestOf code (chain w (blocksIn w (k .state)) (blocks (padded c y))))
+    output-closed (ended k (suc o) b) words (ended-length k (suc o) b l) (e .0)
+    ∙ ap₂ (λ (c : ℕ) (y : List ℕ). outputOf code words (chain w (blocksIn w (k .state)) (blocks (padded c y))))
     (ap (closingByte (suc o)) (ended-byte k (suc o) b l) ∙ closing-high (suc o) b)
     (ended-front k (suc o) b l)
-    ∙ ap (digestOf code) (kept-closed (closingByte (suc o) b) code (take n m))
-    ∙ sym (digest-bits code (start w) m n (suc o) (e .0) (omega (arith, e .1 (zero-lt-suc o))))
+    ∙ ap (outputOf code words) (kept-closed (closingByte (suc o) b) code (take n m))
+    ∙ sym (output-bits code words (start w) m n (suc o) (e .0) (omega (arith, e .1 (zero-lt-suc o))))
+
+-- at the code that it was started at
+pub kept-code : (code : ℕ) (m : List ℕ) (odd : ℕ) → fedBits (started code) m odd .code ≡ code
+unfolding fedBits fed started ended
+kept-code code m zero = refl
+kept-code code m (suc o) = refl
+
+-- so finishing gives Luffa of it
+pub kept-finished : (code : ℕ) (m : List ℕ) (odd : ℕ) → Ends odd m → finished (fedBits (started code) m odd) ≡ luffaOfBits code (bitsIn m odd)
+unfolding finished luffaOfBits
+kept-finished code m odd e = ap (λ (c : ℕ). outputFrom (fedBits (started code) m odd) (wordsAt c)) (kept-code code m odd) ∙ kept-output code (wordsAt code) m odd e

@@ -17,16 +17,14 @@ use Rattle.definition.specs.declared.State.{State}
 use Rattle.definition.specs.declared.Width.{Width}
 use Rattle.definition.specs.declared.Width.the-variants.{W3, W4, W5}
 use Rattle.hash_definition.specs.declared.Kept.{Kept}
-use Rattle.definition.specs.Word.{bytesOf, bytesOfAll}
 use Rattle.definition.specs.Block.{zeroBlock, wordsOf, wordsOfAll}
 use Rattle.definition.specs.Round.{chain}
 use Rattle.definition.specs.Padding.{bitsOf, padding, padded, blocks, rest}
 use Rattle.definition.specs.Width.{blockCount, widthAt}
 use Rattle.definition.specs.Start.{start}
-use Rattle.definition.specs.Final.{outputs, finalRounds, final}
 use Rattle.definition.specs.State.{five, blocksIn, stateOf}
 use Rattle.definition.specs.Buffer.{joined}
-use Rattle.definition.specs.Luffa.{wordsAt, limitAt, digestOf, digestOfBits, luffaOfBits, luffa}
+use Rattle.definition.specs.Luffa.{limitAt}
 use Rattle.definition.specs.Refusal.{known}
 use Rattle.hash_definition.specs.Said.{feedEach}
 use Rattle.hash_definition.specs.Record.{withZeros, heldOf, allZero, countOf, bytesFed, pendingCount, pendingBytes, wellHeld, wellKept, started, fed}
@@ -262,11 +260,6 @@ kept-closed byte code x =
       ← chain-append w (start w) (blocks x) (blocks (rest x ++ padding byte (length x))),
       ← blocks-feed x (padding byte (length x)),
     ))
-
--- the digest of 224 bits is the first 28 bytes of that of 256 bits
-pub first28 : (m : List ℕ) → luffa 1 m ≡ take 28 (luffa 2 m)
-unfolding luffa luffaOfBits digestOfBits digestOf widthAt wordsAt final finalRounds outputs wordsOf bytesOfAll bytesOf
-first28 m = refl
 
 -- a record to begin with is sound
 started-well : (code : ℕ) → known code ≡ true → wellKept (started code) ≡ true

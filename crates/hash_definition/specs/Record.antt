@@ -16,7 +16,7 @@ use Rattle.definition.specs.Padding.{bitsOf, highBits, blocks, rest}
 use Rattle.definition.specs.Width.{blockCount, widthAt}
 use Rattle.definition.specs.Start.{start}
 use Rattle.definition.specs.State.{five, blocksIn, stateOf}
-use Rattle.definition.specs.Luffa.{limitAt, digestOfBits}
+use Rattle.definition.specs.Luffa.{wordsAt, limitAt, outputOfBits}
 use Rattle.definition.specs.Buffer.{overwriteAt}
 use Rattle.definition.specs.Refusal.{known}
 
@@ -153,6 +153,10 @@ unfoldable pub fedBits : Kept → (piece : List ℕ) → (odd : ℕ) → Kept
 fedBits k piece zero = fed k piece
 fedBits k piece (suc o) = ended (fed k (take (length piece - 1) piece)) (suc o) (getD piece (length piece - 1) 0)
 
--- "Padding (3.1)" of the pending bits, and "Finish: F rounds with a zero block"
+-- "Padding (3.1)" of the pending bits, and the final stage over a number of words
+unfoldable pub outputFrom : Kept → (words : ℕ) → List ℕ
+outputFrom k words = outputOfBits (k .code) words (blocksIn (widthAt (k .code)) (k .state)) (pendingBits k)
+
+-- "Finish: F rounds with a zero block": the digest's words of it
 unfoldable pub finished : Kept → List ℕ
-finished k = digestOfBits (k .code) (blocksIn (widthAt (k .code)) (k .state)) (pendingBits k)
+finished k = outputFrom k (wordsAt (k .code))

@@ -45,7 +45,7 @@ pub fn finished_answer(k: Kept, out: &mut [u8]) -> u32
     let code = k.code;
     let words = codes::words(code);
     let form = hash_kept::form(k);
-    let room = refusals::out(4 * words, out.len());
+    let room = refusals::out(words, out.len());
     let number = refusals::first(form, room);
     if number != refusals::DONE {
         return number;

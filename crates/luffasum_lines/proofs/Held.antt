@@ -9,14 +9,13 @@ use borrow.Author.Tests.{eq-eqb, ne-eqb, le-leb, not-false}
 use lib.Dec.{leb}
 use lib.ListN.{length, take, length-take, length-append}
 use lib.Seq.{take-append-le}
-use Rattle.definition.specs.Luffa.{wordsAt, bytesAt, digestOf, digestOfBits}
+use Rattle.definition.specs.Luffa.{wordsAt, bytesAt, outputOfBits}
 use Rattle.definition.specs.Buffer.{overwriteAt, overwrite}
 use Rattle.definition.specs.Refusal.{RECORD, LONG, pick, firstOf, conditionOf, whenDone}
 use Rattle.definition.proofs.Refusals.{fails, not-done}
-use Rattle.definition.proofs.Word.{length-bytes}
-use Rattle.definition.proofs.Final.{length-final}
+use Rattle.definition.proofs.Output.{length-output}
 use Rattle.hash_definition.specs.declared.Kept.{Kept}
-use Rattle.hash_definition.specs.Record.{wellKept, finished}
+use Rattle.hash_definition.specs.Record.{wellKept, outputFrom, finished}
 use Rattle.hash_definition.specs.Lent.{keptRefusal}
 use Rattle.bytes.specs.Total.{writeAt}
 use Rattle.bytes.proofs.Total.{write-at, writeAt-more}
@@ -30,8 +29,8 @@ use Rattle.luffasum_lines.proofs.Lines.{length-line}
 
 -- a digest has its code's bytes
 pub length-finished : (k : Kept) → length (finished k) ≡ bytesAt (k .code)
-unfolding finished digestOfBits digestOf bytesAt
-length-finished k = length-bytes _ ∙ ap (λ (n : ℕ). 4 * n) (length-final _ (wordsAt (k .code)) _)
+unfolding finished outputFrom outputOfBits bytesAt
+length-finished k = length-output (k .code) (wordsAt (k .code)) _
 
 -- a record judged by refusal 3 alone
 pub formed : (k : Kept) → firstOf (keptRefusal k ∷ []) ≡ 0 → wellKept k ≡ true

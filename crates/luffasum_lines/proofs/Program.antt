@@ -16,10 +16,11 @@ use Rattle.definition.specs.Buffer.{joined}
 use Rattle.definition.specs.Refusal.{LONG, known, whenDone}
 use Rattle.definition.proofs.Refusals.{not-done}
 use Rattle.definition.proofs.BitStrings.{luffa-whole}
+use Rattle.definition.proofs.Output.{first28}
 use Rattle.hash_definition.specs.Record.{countOf, bytesFed, wellKept, started, fed, fedBits, finished}
 use Rattle.hash_definition.specs.Lent.{lentFeedOutcome}
 use Rattle.hash_definition.specs.Said.{taken}
-use Rattle.hash_definition.proofs.Feeding.{keptOf, first28, kept-count, fed-empty, fed-fed, started-sound, kept-sound}
+use Rattle.hash_definition.proofs.Feeding.{keptOf, kept-count, fed-empty, fed-fed, started-sound, kept-sound}
 use Rattle.hash_definition.proofs.Ending.{kept-finished}
 use Rattle.hash_definition.proofs.WorkingDemand2.{no-bits, lent-fed, lent-feed-long}
 use Rattle.luffasum_lines.specs.declared.End.{End}

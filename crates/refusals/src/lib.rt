@@ -2,6 +2,7 @@
 // begin with.
 ghost use mathlib.Core.Path.{_≡_};
 ghost use mathlib.Core.List.{[], _∷_};
+ghost use Prim.Native.Nat.{_*_};
 ghost use Rattle.definition.specs.Refusal.{firstOf, whenDone, widthRefusal, outRefusal};
 
 pub const DONE: u32 = 0;
@@ -61,9 +62,10 @@ pub fn width(code: usize) -> u32
     when(!codes::known(code), WIDTH)
 }
 
-// 2: the output buffer is shorter than the bytes that are put into it.
-pub fn out(bytes: usize, out: usize) -> u32
-    ensures { λ r. ⌜ r ≡ firstOf (outRefusal bytes out ∷ []) ⌝ }
+// 2: the output buffer has under four bytes for each word that is put into it. Its length is divided and the words aren't multiplied, so that
+// nothing wraps.
+pub fn out(words: usize, out: usize) -> u32
+    ensures { λ r. ⌜ r ≡ firstOf (outRefusal (4 * words) out ∷ []) ⌝ }
 {
-    when(out < bytes, OUT)
+    when(out / 4 < words, OUT)
 }

@@ -7,7 +7,7 @@ use native.Mathlib.Omega.{arith}
 use lib.ListN.{length, take, drop, length-drop}
 use lib.Seq.{length-take-le}
 use borrow.Author.Tests.{eq-eqb, lt-leb}
-use Rattle.definition.specs.Luffa.{bytesAt, digestOf, digestOfBits, luffaOfBits, luffa}
+use Rattle.definition.specs.Luffa.{wordsAt, bytesAt, outputOfBits, luffaOutput, luffaOfBits, luffa}
 use Rattle.definition.specs.Buffer.{joined}
 use Rattle.definition.specs.Refusal.{pick, firstOf}
 use Rattle.sheet_definition.specs.Sheet.{World, recordBytes}
@@ -17,8 +17,7 @@ use Rattle.sheet_definition.specs.Save.{refusedWith, doneWith}
 use Rattle.sheet_definition.specs.SheetCalls.{Call, refusalsOf, oneRecord, editOf, saveOf, call, changing}
 use Rattle.sheet_definition.specs.Run.{left, next, applied}
 use Rattle.sheet_definition.specs.Said.{Stale, Stands, Untouched, Stays, After, Restored}
-use Rattle.definition.proofs.Word.{length-bytes}
-use Rattle.definition.proofs.Final.{length-final}
+use Rattle.definition.proofs.Output.{length-output}
 use Rattle.definition.proofs.Refusals.{rest-given}
 use Rattle.sheet_definition.proofs.Writes.{put-back}
 use Rattle.sheet_definition.proofs.Outcomes.{accepted, by-answer}
@@ -56,8 +55,8 @@ restores w n sheet place claim out t m l f b e =
 
 -- a digest has the length that its code names
 length-luffa : (code : ℕ) (m : List ℕ) → length (luffa code m) ≡ bytesAt code
-unfolding luffa luffaOfBits digestOfBits digestOf bytesAt
-length-luffa code m = simp (length-bytes, length-final)
+unfolding luffa luffaOfBits luffaOutput outputOfBits bytesAt
+length-luffa code m = length-output code (wordsAt code) _
 
 -- the arguments of a change are valid where a build's are, at a place of the sheet, with a record and a claim of the right length
 change-valid : (w : World) (place : ℕ) (x claim out : List ℕ) → firstOf (buildRefusals (lengthsOf w out)) ≡ 0 → place < w .n

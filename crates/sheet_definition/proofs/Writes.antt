@@ -16,14 +16,13 @@ use Rattle.definition.specs.State.{five}
 use Rattle.definition.specs.Round.{chain}
 use Rattle.definition.specs.Padding.{blocks}
 use Rattle.definition.specs.Width.{widthAt}
-use Rattle.definition.specs.Luffa.{bytesAt, digestOf, digestOfBits, digestAfter}
+use Rattle.definition.specs.Luffa.{wordsAt, bytesAt, outputOfBits, digestAfter}
 use Rattle.definition.specs.Buffer.{overwriteAt, same}
 use Rattle.sheet_definition.specs.Sheet.{groupBytes, markWords, q}
 use Rattle.sheet_definition.specs.Marks.{held, markAt, stateFrom, markOf, marksAfter, worked}
 use Rattle.definition.proofs.Cases.{same→eq}
-use Rattle.definition.proofs.Word.{length-bytes}
 use Rattle.definition.proofs.Buffer.{length-overwriteAt, take-overwriteAt, drop-overwriteAt}
-use Rattle.definition.proofs.Final.{length-final}
+use Rattle.definition.proofs.Output.{length-output}
 
 -- the test of two lists is true exactly when they are equal
 pub same-refl : (xs : List ℕ) → same xs xs ≡ true
@@ -82,5 +81,5 @@ rewritten code n m sheet marks h l =
 
 -- a digest has the length that its code names, whatever the marks
 pub length-digest : (code n m : ℕ) (sheet marks : List ℕ) → length (worked code n sheet marks m .digest) ≡ bytesAt code
-unfolding worked digestAfter digestOfBits digestOf bytesAt
-length-digest code n m sheet marks = simp (length-bytes, length-final)
+unfolding worked digestAfter outputOfBits bytesAt
+length-digest code n m sheet marks = length-output code (wordsAt code) _

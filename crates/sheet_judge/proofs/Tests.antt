@@ -1,4 +1,4 @@
--- Tests of a length divided by 40 are tests of the length, and the groups of n + 1 records.
+-- A test of a length divided by 40 is a test of the length, and the groups of n + 1 records.
 -- Assumes nothing.
 use mathlib.Core.Path.{_≡_, sym, _∙_}
 use Prim.Native.Nat.{ℕ, _+_, _*_, _/_, _%_}
@@ -6,13 +6,6 @@ use native.Mathlib.Decide.{decLe}
 use native.Mathlib.Omega.{arith}
 use lib.Dec.{leb, ltb}
 use borrow.Author.Tests.{lt-ltb, le-ltb, le-leb, lt-leb}
-
-pub below : (a n : ℕ) → ltb (a / 40) n ≡ ltb a (40 * n)
-below a n =
-    elim (decLe n (a / 40)) [
-      | yes h ↦ le-ltb (a / 40) n h ∙ sym (le-ltb a (40 * n) (omega arith))
-      | no h ↦ lt-ltb (a / 40) n (omega arith) ∙ sym (lt-ltb a (40 * n) (omega arith))
-    ]
 
 pub at-most : (a n : ℕ) → leb (a / 40) n ≡ ltb a (40 * (n + 1))
 at-most a n =

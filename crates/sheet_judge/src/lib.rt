@@ -59,7 +59,7 @@ pub fn build(code: usize, sheet: usize, n: usize, marks: usize, out: usize) -> u
     ensures { λ r. ⌜ r ≡ firstOf (buildRefusals (record { code = code; n = n; sheetLength = sheet; marksLength = marks; outLength = out })) ⌝ }
 {
     let one = refusals::width(code);
-    let two = refusals::out(4 * codes::words(code), out);
+    let two = refusals::out(codes::words(code), out);
     let five = records(n, sheet);
     let six = marks_room(n, marks);
     refusals::first(one, refusals::first(two, refusals::first(five, six)))

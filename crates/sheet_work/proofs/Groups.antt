@@ -19,7 +19,7 @@ use Rattle.definition.specs.Width.{blockCount, widthAt}
 use Rattle.definition.specs.State.{five, blocksIn, stateOf}
 use Rattle.definition.specs.Final.{final, finalRounds}
 use Rattle.definition.specs.Counted.{countedChain}
-use Rattle.definition.specs.Luffa.{wordsAt, bytesAt, digestOf}
+use Rattle.definition.specs.Luffa.{wordsAt, bytesAt, outputOf}
 use Rattle.definition.specs.Buffer.{overwriteAt, overwrite}
 use Rattle.sheet_definition.specs.Sheet.{most, recordBytes, groupBytes, markWords, q}
 use Rattle.sheet_definition.specs.Marks.{held, markAt, stateFrom, markOf, marksAfter, roundsAfter, worked}
@@ -30,7 +30,7 @@ use Rattle.definition.proofs.Padding.{blocks-append}
 use Rattle.definition.proofs.BitStrings.{digest-bytes}
 use Rattle.sheet_definition.proofs.Writes.{drop-take}
 use Rattle.sheet_definition.proofs.Marks.{padded-append, padded-blocks, length-mark}
-use Rattle.squeeze.proofs.Digests.{all-words, squeezed-out}
+use Rattle.squeeze.proofs.Room.{all-words, squeezed-out}
 
 -- the records held from place i on, where they lie in the sheet
 from-place : (i j : ℕ) (l : List ℕ) → i ≤ j → take (j - i) (drop i l) ≡ drop i (take j l)
@@ -152,8 +152,8 @@ module _ (code n m before : ℕ) (sheet marks out : List ℕ) (s : State) (k : �
   words = min (wordsAt code) (length out / 4)
 
   digest-worked : bytesOfAll (final w words (blocksIn w (d .state))) ≡ worked code n sheet marks m .digest
-  unfolding worked digestOf
-  digest-worked = rw (ended, digest-bytes code _ rest) (ap bytesOfAll (squeezed-out code fromMark ms out out-room ∙ rw found))
+  unfolding worked outputOf bytesAt
+  digest-worked = rw (ended, digest-bytes code _ rest) (ap bytesOfAll (squeezed-out w (wordsAt code) fromMark ms out out-room ∙ rw found))
 
   -- the count is the number of rounds that the definition applies
   rounds-worked : n ≤ most → before < 2 ^ 32
@@ -165,7 +165,7 @@ module _ (code n m before : ℕ) (sheet marks out : List ℕ) (s : State) (k : �
       ap (λ (t : Counted). t .rounds) ended ∙ counted-rounds w fromMark ms (omega arith) in
       counted-rounds w d zs (omega arith)
       ∙ no-wrap code before (length rest) (d .rounds) (length ms) (length zs) b t
-      (length-replicate (finalRounds words) zeroBlock ∙ ap finalRounds (all-words code out out-room))
+      (length-replicate (finalRounds words) zeroBlock ∙ ap finalRounds (all-words (wordsAt code) out (unfold bytesAt in out-room)))
       (padded-blocks closing rest)
       (unfold held in omega (arith, length-drop (groupBytes * m) (take (recordBytes * n) sheet), length-take-le (recordBytes * n) sheet room))
 

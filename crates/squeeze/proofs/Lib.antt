@@ -1,3 +1,3 @@
 -- Laws that the proofs share.
 pub mod Words
-pub mod Digests
+pub mod Room

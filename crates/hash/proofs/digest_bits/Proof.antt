@@ -14,9 +14,9 @@ use Rattle.definition.specs.Word.{bytesOfAll}
 use Rattle.definition.specs.Buffer.{overwrite}
 use Rattle.definition.specs.Final.{final}
 use Rattle.definition.specs.State.{blocksIn}
-use Rattle.definition.specs.Luffa.{bytesAt}
+use Rattle.definition.specs.Width.{widthAt}
+use Rattle.definition.specs.Luffa.{wordsAt, bytesAt}
 use Rattle.definition.specs.Refusal.{Refusal, OUT, ODD, pick, firstOf, conditionOf, widthRefusal, outRefusal}
-use Rattle.definition.proofs.Codes.{words-le}
 use Rattle.definition.proofs.Refusals.{in-turn, fails}
 use Rattle.hash_definition.specs.Calls.{oddRefusal, longRefusal, digestRefusals, digestBitsOutcome}
 use Rattle.hash_definition.specs.Record.{countOf}
@@ -24,7 +24,7 @@ use Rattle.hash_definition.specs.Said.{done, Ends}
 use Rattle.hash_definition.proofs.Refused.{refused, accepted}
 use Rattle.hash_definition.proofs.Takes.{odd-passed}
 use Rattle.hash_pieces.proofs.Staying.{whole-le}
-use Rattle.squeeze.proofs.Digests.{squeezed-out}
+use Rattle.squeeze.proofs.Room.{squeezed-out}
 use Rattle.hash.proofs.Output.{whole-message}
 use Rattle.hash.proofs.digest_bits.Statement.{statement}
 use Rattle.hash.proofs.digest_bits.Tie as tie
@@ -34,9 +34,6 @@ from c = c .before .before .before .before .before .before .before .before
 
 abbrev refusals : tie.After-first2 → List Refusal
 refusals c = digestRefusals (from c .args .code) (from c .args .odd) (length (now (from c .args .message))) (length (now (from c .args .out)))
-
-mul-out : tie.Need-mul-out
-mul-out c = omega (arith, c .words .ensures, words-le (c .before .before .before .args .code))
 
 judged : (c : tie.After-first2) → c .first2 .result ≡ firstOf (refusals c)
 unfolding digestRefusals widthRefusal outRefusal oddRefusal longRefusal bytesAt countOf
@@ -86,7 +83,7 @@ returns-2 c =
     q .squeeze .ensures .1 in
     let e =
     (rw (l .absorb-last .ensures, n .words .ensures, w .width2 .ensures) at z)
-    ∙ ap (λ (ws : List ℕ). overwrite (bytesOfAll ws) out) (squeezed-out (a .code) _ _ out (room i))
+    ∙ ap (λ (ws : List ℕ). overwrite (bytesOfAll ws) out) (squeezed-out (widthAt (a .code)) (wordsAt (a .code)) _ _ out (unfold bytesAt in room i))
     ∙ ap (λ (p : List ℕ). overwrite p out)
     (whole-message (a .code) (now (a .message)) (a .odd) (h .whole .result) (o .closing .result) _ (rw (w .width2 .ensures) at (s .start .ensures)) (ends i) (h .whole .ensures)
     (o .closing .ensures (ends i .0) (ends i .1) (h .whole .ensures))) in
@@ -97,7 +94,6 @@ digest-bits-spec =
     tie.close
     (tie.spec
     (λ c κs. tt)
-    mul-out
     (λ c κs. tt)
     (λ c κs. tt)
     (λ c κs. tt)

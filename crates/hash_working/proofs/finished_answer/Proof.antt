@@ -18,17 +18,16 @@ use Rattle.definition.specs.Padding.{closingByte, padded, blocks}
 use Rattle.definition.specs.Buffer.{overwrite}
 use Rattle.definition.specs.Final.{final}
 use Rattle.definition.specs.State.{blocksIn}
-use Rattle.definition.specs.Luffa.{bytesAt, digestOf}
+use Rattle.definition.specs.Luffa.{wordsAt, bytesAt, outputOf}
 use Rattle.definition.specs.Refusal.{Refusal, OUT, RECORD, pick, firstOf, conditionOf, outRefusal}
 use Rattle.hash_definition.specs.Record.{pendingBytes, finished}
 use Rattle.hash_definition.specs.Lent.{keptRefusal, lentFinishRefusals, lentFinishOutcome}
 use Rattle.hash_definition.specs.Said.{done}
-use Rattle.definition.proofs.Codes.{words-le}
 use Rattle.definition.proofs.Refusals.{in-turn, fails}
 use Rattle.hash_definition.proofs.Feeding.{well-kept}
-use Rattle.hash_definition.proofs.Ending.{low-pending, finished-closed}
+use Rattle.hash_definition.proofs.Ending.{low-pending, output-closed}
 use Rattle.hash_definition.proofs.Refused.{refused, accepted}
-use Rattle.squeeze.proofs.Digests.{squeezed-out}
+use Rattle.squeeze.proofs.Room.{squeezed-out}
 use Rattle.hash_working.proofs.finished_answer.Statement.{statement}
 use Rattle.hash_working.proofs.finished_answer.Tie as tie
 
@@ -37,9 +36,6 @@ start c = c .before .before .before .before .before
 
 abbrev refusals : tie.After-first → List Refusal
 refusals c = lentFinishRefusals (start c .args .k) (length (now (start c .args .out)))
-
-mul-out : tie.Need-mul-out
-mul-out c = omega (arith, c .before .words .ensures, words-le (c .before .before .before .args .k .code))
 
 judged : (c : tie.After-first) → c .first .result ≡ firstOf (refusals c)
 unfolding lentFinishRefusals keptRefusal bytesAt
@@ -76,13 +72,13 @@ few c = well-kept _ (not-false _ (fails (refusals (c .before)) (omega arith) (rw
 
 -- the pending bytes closed by the byte that holds the odd bits
 closed : (k : Kept) (b : ℕ) → length (k .pending) ≡ 32 → k .odd ≤ 7 → b ≡ closingByte (k .odd) (getD (k .pending) (k .low % 32) 0)
-    → digestOf (k .code) (chain (widthAt (k .code)) (blocksIn (widthAt (k .code)) (k .state)) (blocks (padded b (take (k .low % 32) (k .pending)))))
+    → outputOf (k .code) (wordsAt (k .code)) (chain (widthAt (k .code)) (blocksIn (widthAt (k .code)) (k .state)) (blocks (padded b (take (k .low % 32) (k .pending)))))
     ≡ finished k
-unfolding pendingBytes
-closed k b l h e = rw (e, low-pending k) (sym (finished-closed k l h))
+unfolding pendingBytes finished
+closed k b l h e = rw (e, low-pending k) (sym (output-closed k (wordsAt (k .code)) l h))
 
 returns-2 : tie.Need-returns-2
-unfolding lentFinishOutcome digestOf
+unfolding lentFinishOutcome outputOf
 returns-2 c =
     let q = c .before .before in
     let l = q .before .before in
@@ -100,7 +96,7 @@ returns-2 c =
     q .squeeze .ensures .1 in
     let d =
     (rw (l .absorb-last .ensures, n .words .ensures, w .width .ensures) at z)
-    ∙ ap (λ (ws : List ℕ). overwrite (bytesOfAll ws) out) (squeezed-out (k .code) _ _ out (unfold bytesAt in room i))
+    ∙ ap (λ (ws : List ℕ). overwrite (bytesOfAll ws) out) (squeezed-out (widthAt (k .code)) (wordsAt (k .code)) _ _ out (unfold bytesAt in room i))
     ∙ ap (λ (x : List ℕ). overwrite x out) (closed k _ (pending s) (few i) (o .closing .ensures (few i))) in
     ap done d ∙ accepted _ (judged f) _ _ (i .if1 .left)
 
@@ -110,7 +106,6 @@ finished-answer-spec =
     (tie.spec
     (λ c κs. tt)
     (λ c κs. tt)
-    mul-out
     (λ c κs. tt)
     (λ c κs. tt)
     returns

@@ -5,7 +5,6 @@ use native.Mathlib.Omega.{arith}
 use Rattle.definition.specs.Luffa.{bytesAt}
 use Rattle.definition.specs.Refusal.{widthRefusal, outRefusal}
 use Rattle.sheet_definition.specs.Refusals.{sheetRefusal, marksRefusal, buildRefusals}
-use Rattle.definition.proofs.Codes.{words-le}
 use Rattle.definition.proofs.Refusals.{then-judged}
 use Rattle.sheet_judge.proofs.build.Statement.{statement}
 use Rattle.sheet_judge.proofs.build.Tie as tie
@@ -26,5 +25,4 @@ returns c =
 pub build-spec : {M : Type 1} → statement M
 build-spec =
     tie.close
-    (tie.spec (λ c κs. tt) (λ c κs. tt) (λ c. omega (arith, words-le (c .before .before .args .code))) (λ c κs. tt) (λ c κs. tt) (λ c κs. tt)
-    (λ c κs. tt) (λ c κs. tt) (λ c κs. tt) returns)
+    (tie.spec (λ c κs. tt) (λ c κs. tt) (λ c κs. tt) (λ c κs. tt) (λ c κs. tt) (λ c κs. tt) (λ c κs. tt) (λ c κs. tt) returns)
