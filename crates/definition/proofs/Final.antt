@@ -30,7 +30,7 @@ length-outputs w (suc n) h = simp (length-outputs w n) (omega arith)
 pub length-final : (w : Width) (n : ℕ) (h : List Block) → length (final w n h) ≡ n
 unfolding final finalRounds
 length-final w n h =
-    length-take-le n (outputs w ((n + 7) / 8) h) (omega (arith, length-outputs w ((n + 7) / 8) h))
+    length-take-le n (outputs w (finalRounds n) h) (omega (arith, length-outputs w (finalRounds n) h))
 
 pub output-at : (w : Width) (n k : ℕ) (h : List Block) → k < n * 8
     → getD (outputs w n h) k 0 ≡ getD (wordsOf (xorAll (blank w (k / 8 + 1) h))) (k % 8) 0

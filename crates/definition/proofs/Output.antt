@@ -78,6 +78,11 @@ pub rounded-up : (words : ℕ) → (words ≤ 8 * finalRounds words) × (8 * fin
 unfolding finalRounds
 rounded-up words = (omega arith, omega arith)
 
+-- document 01: "F = 1 at codes 1 and 2, F = 2 at codes 3 and 4", read from this count; and the most words, 64
+pub digest-rounds : (finalRounds (wordsAt 1) ≡ 1) × (finalRounds (wordsAt 2) ≡ 1) × (finalRounds (wordsAt 3) ≡ 2) × (finalRounds (wordsAt 4) ≡ 2) × (finalRounds 64 ≡ 8)
+unfolding finalRounds wordsAt
+digest-rounds = (refl, refl, refl, refl, refl)
+
 -- "report its rounds": a count that begins with the final stage and goes up by one in each round
 pub final-counted : (w : Width) (s : State) (words : ℕ) → words < 2 ^ 64
     → countedChain w (record { state = s; rounds = 0 }) (replicate (finalRounds words) zeroBlock) .rounds ≡ finalRounds words

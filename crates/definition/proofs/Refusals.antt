@@ -94,3 +94,9 @@ pub not-done : {A : Type 0} (k : ℕ) (a b : A) → (k ≡ 0 → ⊥) → whenDo
 unfolding whenDone
 not-done zero a b h = absurd (h refl)
 not-done (suc k) a b h = refl
+
+-- where two judgements in their order give 0, the second is 0
+pub second-done : (a b : ℕ) → whenDone a b a ≡ 0 → b ≡ 0
+unfolding whenDone
+second-done zero b e = e
+second-done (suc a) b e = absurd (omega arith)

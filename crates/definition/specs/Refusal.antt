@@ -43,7 +43,10 @@ CLAIM = 10
 abbrev pub STALE : ℕ
 STALE = 11
 
--- and document 02's: of the brine statement, Q-3, and of odd bits, Q-7
+-- and document 02's: of longer output, Q-2, of the brine statement, Q-3, and of odd bits, Q-7
+abbrev pub WORDS : ℕ
+WORDS = 12
+
 abbrev pub BATCH : ℕ
 BATCH = 13
 
@@ -111,6 +114,6 @@ known code = leb 1 code && leb code 4
 unfoldable pub widthRefusal : (code : ℕ) → Refusal
 widthRefusal code = (WIDTH, not (known code))
 
--- 2: the output buffer is shorter than the digest, which has so many bytes
+-- 2: the output buffer is shorter than what is put out, the digest or longer output, which has so many bytes
 unfoldable pub outRefusal : (bytes out : ℕ) → Refusal
 outRefusal bytes out = (OUT, ltb out bytes)

@@ -1,4 +1,4 @@
 -- Laws that the proofs of the calls share.
-pub mod Output
+pub mod Message
 pub mod Read
 pub mod ShortFeed

@@ -3,17 +3,18 @@
 use mathlib.Core.Path.{_≡_, refl}
 use mathlib.Core.Bool.{Bool, true, false, not, _&&_}
 use mathlib.Core.List.{List, [], _∷_}
-use Prim.Native.Nat.{ℕ, zero, suc}
+use Prim.Native.Nat.{ℕ, zero, suc, _*_}
 use lib.Dec.{eqb}
 use lib.ListN.{length, take, drop}
 use Rattle.definition.specs.Luffa.{bytesAt}
 use Rattle.definition.specs.Buffer.{overwrite}
-use Rattle.definition.specs.Refusal.{RECORD, pick, firstOf, known, outRefusal, whenDone}
+use Rattle.definition.specs.Refusal.{RECORD, WORDS, pick, firstOf, known, outRefusal, whenDone}
 use Rattle.hash_definition.specs.declared.Kept.{Kept}
 use Rattle.hash_definition.specs.declared.Lent.{Lent}
-use Rattle.hash_definition.specs.Record.{recordLength, allZero, bytesFed, wellFormed, wellHeld, wellKept, encode, decode, fedBits, finished}
+use Rattle.hash_definition.specs.Record.{recordLength, allZero, bytesFed, wellFormed, wellHeld, wellKept, encode, decode, fedBits, outputFrom, finished}
 use Rattle.hash_definition.specs.Calls.{outcome, oddRefusal, longRefusal, recordRefusal, feedRefusals, finishRefusals, feedBitsOutcome, finishOutcome}
 use Rattle.hash_definition.specs.Lent.{lentOutcome, keptRefusal, lentFeedRefusals, lentFinishRefusals, lentFeedBitsOutcome, lentFinishOutcome}
+use Rattle.hash_definition.specs.Output.{outputBy, wordsRefusal, finishOutputRefusals, lentFinishOutputRefusals, finishOutputOutcome, lentFinishOutputOutcome}
 use Rattle.hash_record.specs.Reading.{framed, nothing, reading, written}
 
 module _ (b : List ℕ) where
@@ -40,6 +41,15 @@ module _ (b : List ℕ) where
   finish-by out true = refl
   finish-by out false = refl
 
+  -- and by whether the words are refused
+  finish-output-by : (words : ℕ) (out : List ℕ) (v t : Bool)
+      → outputBy (firstOf ((WORDS, v) ∷ keptRefusal (pick t (decode b) nothing) ∷ outRefusal (4 * words) (length out) ∷ [])) words (overwrite (outputFrom (pick t (decode b) nothing) words) out) out
+      ≡ outputBy (firstOf ((WORDS, v) ∷ (RECORD, not (t && wellKept (decode b))) ∷ outRefusal (4 * words) (length out) ∷ [])) words (overwrite (outputFrom (decode b) words) out) out
+  unfolding pick nothing wellKept wellHeld known keptRefusal outputBy firstOf whenDone
+  finish-output-by words out true t = refl
+  finish-output-by words out false true = refl
+  finish-output-by words out false false = refl
+
   pub feed-read : (p : List ℕ) (odd : ℕ) (o : Lent) → o ≡ lentFeedBitsOutcome (reading b) p odd
       → record { number = o .number; buffer = whenDone (o .number) (written (o .kept) b) b } ≡ feedBitsOutcome b p odd
   unfolding reading framed written feedBitsOutcome feedRefusals recordRefusal wellFormed
@@ -48,3 +58,7 @@ module _ (b : List ℕ) where
   pub finish-read : (out : List ℕ) → lentFinishOutcome (reading b) out ≡ finishOutcome b out
   unfolding reading framed finishOutcome finishRefusals recordRefusal wellFormed
   finish-read out = finish-by out (eqb (length b) recordLength && allZero (take 6 (drop 2 b)))
+
+  pub finish-output-read : (words : ℕ) (out : List ℕ) → lentFinishOutputOutcome (reading b) words out ≡ finishOutputOutcome b words out
+  unfolding reading framed lentFinishOutputOutcome lentFinishOutputRefusals finishOutputOutcome finishOutputRefusals wordsRefusal recordRefusal wellFormed
+  finish-output-read words out = finish-output-by words out _ (eqb (length b) recordLength && allZero (take 6 (drop 2 b)))

@@ -13,7 +13,7 @@ use Rattle.definition.specs.Luffa.{bytesAt, limitAt, luffaOfBits}
 use Rattle.definition.specs.Buffer.{overwrite, joined}
 use Rattle.definition.specs.Refusal.{pick, firstOf, known, widthRefusal, whenDone}
 use Rattle.hash_definition.specs.Record.{recordLength, encode, started, fedBits}
-use Rattle.hash_definition.specs.Calls.{outcome, bufferRefusal, startRefusals, startOutcome, feedOutcome, finishOutcome}
+use Rattle.hash_definition.specs.Calls.{outcome, bufferRefusal, startRefusals, startOutcome, feedBitsOutcome, feedOutcome, finishOutcome}
 use Rattle.hash_definition.specs.Said.{done, inBytes, feedAll, Ends, Demand2, BitsDemand2}
 use Rattle.definition.proofs.BitStrings.{luffa-whole}
 use Rattle.hash_definition.proofs.Feeding.{keptOf, Sound, kept-sound, feed-each}
@@ -37,7 +37,7 @@ finish-done : (code : ℕ) (m : List ℕ) (odd : ℕ) (out : List ℕ) → known
     → 8 * wholeBytes odd (length m) + odd < limitAt code → bytesAt code ≤ length out
     → finishOutcome (encode (fedBits (started code) m odd)) out ≡ done (overwrite (luffaOfBits code (bitsIn m odd)) out)
 finish-done code m odd out k e h l =
-    let s : Sound (fedBits (started code) m odd) = kept-bits-sound code m odd out k e h l in
+    let s : Sound (fedBits (started code) m odd) = kept-bits-sound code m odd k e h in
     lent-finish (fedBits (started code) m odd) (sound-typed _ s) (sound-byte _ s) out ∙ kept-finish-done code m odd out k e h l
 
 -- Demand 2 holds for every known code, every buffer of 216 bytes, every message of whole bytes under Table 1's limit in any pieces, empty ones
@@ -59,16 +59,29 @@ demand2 code b ps out k e h l =
       digested = digest-done code m 0 out k (no-bits m) i l ∙ whole;
     }
 
+-- the last piece, which may end with odd bits, fed to the record of those before it
+last-fed-bytes : (code : ℕ) (ps : List (List ℕ)) (last : List ℕ) (odd : ℕ) → known code ≡ true → Ends odd last
+    → length (bitsIn (joined ps ++ last) odd) < limitAt code
+    → feedBitsOutcome (encode (keptOf code (joined ps))) last odd ≡ done (encode (fedBits (started code) (joined ps ++ last) odd))
+last-fed-bytes code ps last odd k o h =
+    let j : Sound (keptOf code (joined ps)) = kept-sound code (joined ps) k (front-within code ps last odd k o h) in
+    lent-feed (keptOf code (joined ps)) (sound-typed _ j) (sound-byte _ j) last odd ∙ ap inBytes (last-fed code ps last odd k o h)
+
+-- the record after such pieces, fed in turn
+pub record-after : (code : ℕ) (b : List ℕ) (ps : List (List ℕ)) (last : List ℕ) (odd : ℕ) → known code ≡ true → length b ≡ recordLength → Ends odd last
+    → length (bitsIn (joined ps ++ last) odd) < limitAt code
+    → feedBitsOutcome (feedAll (startOutcome code b .buffer) ps .last) last odd .buffer ≡ encode (fedBits (started code) (joined ps ++ last) odd)
+record-after code b ps last odd k e o h =
+    rw (start-done code b k e, fed-all code ps k (front-within code ps last odd k o h), last-fed-bytes code ps last odd k o h)
+
 -- and of every bit length under Table 1's limit: the last piece ends with odd bits or without
 pub bits-demand2 : (code : ℕ) (b : List ℕ) (ps : List (List ℕ)) (last : List ℕ) (odd : ℕ) (out : List ℕ)
     → known code ≡ true → length b ≡ recordLength → Ends odd last → length (bitsIn (joined ps ++ last) odd) < limitAt code
     → bytesAt code ≤ length out → BitsDemand2 code b ps last odd out
 bits-demand2 code b ps last odd out k e o h l =
     let s = start-done code b k e in
-    let front = front-within code ps last odd k o h in
-    let f = fed-all code ps k front in
-    let j : Sound (keptOf code (joined ps)) = kept-sound code (joined ps) k front in
-    let d = lent-feed (keptOf code (joined ps)) (sound-typed _ j) (sound-byte _ j) last odd ∙ ap inBytes (last-fed code ps last odd k o h) in
+    let f = fed-all code ps k (front-within code ps last odd k o h) in
+    let d = last-fed-bytes code ps last odd k o h in
     let m : List ℕ = joined ps ++ last in
     let q : Ends odd m = ends-whole code ps last odd k o h in
     let i = bits-within code ps last odd k o h in

@@ -6,6 +6,7 @@ use Rattle.definition.proofs.Determined.{Determined, determined}
 use Rattle.hash_definition.specs.declared.Kept.{Kept}
 use Rattle.hash_definition.specs.Calls.{digestBitsOutcome, startOutcome, feedBitsOutcome, finishOutcome}
 use Rattle.hash_definition.specs.Lent.{lentStartOutcome, lentFeedBitsOutcome, lentFinishOutcome}
+use Rattle.hash_definition.specs.Output.{outputBitsOutcome, finishOutputOutcome, lentFinishOutputOutcome}
 
 pub digest-determined : (code : ℕ) (message : List ℕ) (odd : ℕ) (out : List ℕ) → Determined (digestBitsOutcome code message odd out)
 digest-determined code message odd out = determined (digestBitsOutcome code message odd out)
@@ -27,3 +28,12 @@ lent-feed-determined k piece odd = determined (lentFeedBitsOutcome k piece odd)
 
 pub lent-finish-determined : (k : Kept) (out : List ℕ) → Determined (lentFinishOutcome k out)
 lent-finish-determined k out = determined (lentFinishOutcome k out)
+
+pub output-determined : (code words : ℕ) (message : List ℕ) (odd : ℕ) (out : List ℕ) → Determined (outputBitsOutcome code words message odd out)
+output-determined code words message odd out = determined (outputBitsOutcome code words message odd out)
+
+pub finish-output-determined : (b : List ℕ) (words : ℕ) (out : List ℕ) → Determined (finishOutputOutcome b words out)
+finish-output-determined b words out = determined (finishOutputOutcome b words out)
+
+pub lent-finish-output-determined : (k : Kept) (words : ℕ) (out : List ℕ) → Determined (lentFinishOutputOutcome k words out)
+lent-finish-output-determined k words out = determined (lentFinishOutputOutcome k words out)

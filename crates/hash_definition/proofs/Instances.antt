@@ -1,4 +1,4 @@
--- The hypotheses of demand 2's theorems can be met: `abc` in two pieces, with its last byte whole or five bits of it; and the edge of Table 1,
+-- The hypotheses of the theorems on demand 2 and on longer output can be met: `abc` in two pieces, with its last byte whole or five bits of it; and the edge of Table 1,
 -- document 01's "A piece of 1 byte onto count 2^61 - 2 is taken; 2 bytes are refused 4", odd bits onto count 2^61 - 1, and the carry at code 4.
 -- Assumes nothing.
 use mathlib.Core.Path.{_≡_, refl}
@@ -19,7 +19,8 @@ use Rattle.definition.specs.Refusal.{LONG, ODD, known}
 use Rattle.hash_definition.specs.Record.{encode, decode, blockIn, countWords, numberAt, allZero, countOf, bytesFed, pendingCount, pendingBytes, withZeros, heldOf, wellHeld, wellKept, wellFormed, started, fed, ended, fedBits}
 use Rattle.hash_definition.specs.Calls.{feedOutcome}
 use Rattle.hash_definition.specs.Lent.{lentFeedBitsOutcome, lentFeedOutcome}
-use Rattle.hash_definition.specs.Said.{done, taken, refused, long, Typed, Demand2, BitsDemand2, LentDemand2, LentBitsDemand2, AnyFed}
+use Rattle.hash_definition.specs.Output.{outputBitsOutcome, finishOutputOutcome, lentFinishOutputOutcome}
+use Rattle.hash_definition.specs.Said.{done, taken, refused, long, Typed, Demand2, BitsDemand2, LentDemand2, LentBitsDemand2, AnyFed, OutputDemand2, Begins}
 use Rattle.definition.proofs.Computed.{everything}
 use Rattle.definition.proofs.Every.{every-at}
 use Rattle.definition.proofs.Bounds.{start-words, five-words}
@@ -28,6 +29,7 @@ use Rattle.hash_definition.proofs.Working.{sound-typed, no-byte}
 use Rattle.hash_definition.proofs.WorkingDemand2.{no-bits, lent-demand2, lent-bits-demand2, lent-twice, lent-empty, lent-feed-done, lent-feed-long, lent-feed-odd}
 use Rattle.hash_definition.proofs.AnyRecord.{any-long, any-odd, any-fed, any-twice, any-empty}
 use Rattle.hash_definition.proofs.Demand2.{demand2, bits-demand2}
+use Rattle.hash_definition.proofs.Output.{lent-shorter, any-shorter, output-shorter, output-demand2}
 
 -- `ab` and `c`
 abbrev pub pieces : List (List ℕ)
@@ -175,3 +177,26 @@ nearly-typed = sound-typed nearly nearly-sound
 -- and a code that no byte holds: unknown-feed, unknown-finish
 pub no-code : known 256 ≡ false
 no-code = no-byte 256 (omega arith)
+
+-- longer output of that message, and of that record: output-demand2, any-shorter, lent-shorter, output-shorter
+pub bits-put-out : OutputDemand2 2 64 (replicate 216 0) nearly pieces (0x64 ∷ []) 5 (replicate 256 0)
+unfolding everything joined
+bits-put-out =
+    output-demand2 2 64 (replicate 216 0) nearly pieces (0x64 ∷ []) 5 (replicate 256 0) refl refl (omega arith, λ h. omega arith) (omega arith) (omega arith)
+    (omega arith) (omega arith)
+
+pub first-eight : Begins 8 64 (finishOutputOutcome (encode nearly) 8 (replicate 40 0)) (finishOutputOutcome (encode nearly) 64 (replicate 256 0))
+first-eight = any-shorter 8 64 (replicate 40 0) (replicate 256 0) (omega arith) (omega arith) (omega arith) (omega arith) (omega arith) (encode nearly) nearly-formed
+
+pub first-eight-lent : Begins 8 64 (lentFinishOutputOutcome nearly 8 (replicate 40 0)) (lentFinishOutputOutcome nearly 64 (replicate 256 0))
+first-eight-lent = lent-shorter 8 64 (replicate 40 0) (replicate 256 0) (omega arith) (omega arith) (omega arith) (omega arith) (omega arith) nearly nearly-kept
+
+pub first-eight-at-once : Begins 8 64 (outputBitsOutcome 2 8 (0x64 ∷ []) 5 (replicate 40 0)) (outputBitsOutcome 2 64 (0x64 ∷ []) 5 (replicate 256 0))
+unfolding limitAt wholeBytes known
+first-eight-at-once =
+    output-shorter 8 64 (replicate 40 0) (replicate 256 0) (omega arith) (omega arith) (omega arith) (omega arith) (omega arith) 2 (0x64 ∷ []) 5 refl
+    (omega arith, λ h. omega arith) (omega arith)
+
+-- a record whose code is known: finish-as-output, lent-finish-as-output
+pub nearly-known : known (decode (encode nearly) .code) ≡ true
+nearly-known = rw held (unfold known in refl)

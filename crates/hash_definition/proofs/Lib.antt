@@ -11,5 +11,6 @@ pub mod Working
 pub mod WorkingDemand2
 pub mod AnyRecord
 pub mod Demand2
+pub mod Output
 pub mod Determined
 pub mod Instances

@@ -9,10 +9,11 @@ use native.Mathlib.Omega.{arith}
 use lib.ListN.{length}
 use Rattle.hash_definition.specs.declared.Kept.{Kept}
 use Rattle.definition.specs.Buffer.{Every}
-use Rattle.definition.specs.Refusal.{WIDTH, OUT, RECORD, LONG, ODD, Judged, numbersOf, rising, widthRefusal, outRefusal}
+use Rattle.definition.specs.Refusal.{WIDTH, OUT, RECORD, LONG, WORDS, ODD, Judged, numbersOf, rising, widthRefusal, outRefusal}
 use Rattle.definition.proofs.Refusals.{judged}
 use Rattle.hash_definition.specs.Calls.{outcome, oddRefusal, longRefusal, recordRefusal, bufferRefusal, digestRefusals, startRefusals, feedRefusals, finishRefusals, digestBitsOutcome, startOutcome, feedBitsOutcome, finishOutcome}
 use Rattle.hash_definition.specs.Lent.{lentOutcome, keptRefusal, lentStartRefusals, lentFeedRefusals, lentFinishRefusals, lentStartOutcome, lentFeedBitsOutcome, lentFinishOutcome}
+use Rattle.hash_definition.specs.Output.{outputBy, wordsRefusal, outputRefusals, finishOutputRefusals, lentFinishOutputRefusals, outputBitsOutcome, finishOutputOutcome, lentFinishOutputOutcome}
 
 -- "Given exactly when": each call's answer is judged by its list, in this order
 pub record Orders : Type 0 where
@@ -27,9 +28,16 @@ pub record Orders : Type 0 where
       → Judged (lentFeedBitsOutcome k piece odd .number) (lentFeedRefusals k odd (length piece)) (RECORD ∷ ODD ∷ LONG ∷ [])
   pub lent-finish : (k : Kept) (out : List ℕ)
       → Judged (lentFinishOutcome k out .number) (lentFinishRefusals k (length out)) (RECORD ∷ OUT ∷ [])
+  pub output : (code words : ℕ) (message : List ℕ) (odd : ℕ) (out : List ℕ)
+      → Judged (outputBitsOutcome code words message odd out .answer .number) (outputRefusals code words odd (length message) (length out))
+      (WIDTH ∷ WORDS ∷ OUT ∷ ODD ∷ LONG ∷ [])
+  pub finish-output : (b : List ℕ) (words : ℕ) (out : List ℕ)
+      → Judged (finishOutputOutcome b words out .answer .number) (finishOutputRefusals b words (length out)) (WORDS ∷ RECORD ∷ OUT ∷ [])
+  pub lent-finish-output : (k : Kept) (words : ℕ) (out : List ℕ)
+      → Judged (lentFinishOutputOutcome k words out .answer .number) (lentFinishOutputRefusals k words (length out)) (WORDS ∷ RECORD ∷ OUT ∷ [])
 
 pub orders : Orders
-unfolding digestBitsOutcome startOutcome feedBitsOutcome finishOutcome lentStartOutcome lentFeedBitsOutcome lentFinishOutcome outcome lentOutcome digestRefusals startRefusals feedRefusals finishRefusals lentStartRefusals lentFeedRefusals lentFinishRefusals numbersOf widthRefusal outRefusal oddRefusal longRefusal recordRefusal bufferRefusal keptRefusal
+unfolding digestBitsOutcome startOutcome feedBitsOutcome finishOutcome lentStartOutcome lentFeedBitsOutcome lentFinishOutcome outputBitsOutcome finishOutputOutcome lentFinishOutputOutcome outcome lentOutcome outputBy digestRefusals startRefusals feedRefusals finishRefusals lentStartRefusals lentFeedRefusals lentFinishRefusals outputRefusals finishOutputRefusals lentFinishOutputRefusals wordsRefusal numbersOf widthRefusal outRefusal oddRefusal longRefusal recordRefusal bufferRefusal keptRefusal
 orders =
     record {
       digest = λ code message odd out. judged _ (omega arith) refl;
@@ -39,14 +47,18 @@ orders =
       lent-start = λ code k. judged _ (omega arith) refl;
       lent-feed = λ k piece odd. judged _ (omega arith) refl;
       lent-finish = λ k out. judged _ (omega arith) refl;
+      output = λ code words message odd out. judged _ (omega arith) refl;
+      finish-output = λ b words out. judged _ (omega arith) refl;
+      lent-finish-output = λ k words out. judged _ (omega arith) refl;
     }
 
--- the numbers rise in start's orders alone: 17 stands before 4, and finish judges the record first
+-- the numbers rise in start's orders alone: 17 stands before 4, finish judges the record first, and 12 stands before 2 and 3
 pub rises : (code n : ℕ) → Every (λ rs. rising (numbersOf rs) ≡ true) (startRefusals code n ∷ lentStartRefusals code ∷ [])
 unfolding rising numbersOf startRefusals lentStartRefusals widthRefusal bufferRefusal
 rises code n = (refl, (refl, tt))
 
-pub falls : (code odd n m : ℕ) (b : List ℕ) (k : Kept)
-    → Every (λ rs. rising (numbersOf rs) ≡ false) (digestRefusals code odd n m ∷ feedRefusals b odd n ∷ lentFeedRefusals k odd n ∷ finishRefusals b n ∷ lentFinishRefusals k n ∷ [])
-unfolding rising numbersOf digestRefusals feedRefusals finishRefusals lentFeedRefusals lentFinishRefusals widthRefusal outRefusal oddRefusal longRefusal recordRefusal keptRefusal
-falls code odd n m b k = (refl, (refl, (refl, (refl, (refl, tt)))))
+pub falls : (code words odd n m : ℕ) (b : List ℕ) (k : Kept)
+    → Every (λ rs. rising (numbersOf rs) ≡ false) (digestRefusals code odd n m ∷ feedRefusals b odd n ∷ lentFeedRefusals k odd n ∷ finishRefusals b n ∷ lentFinishRefusals k n
+    ∷ outputRefusals code words odd n m ∷ finishOutputRefusals b words n ∷ lentFinishOutputRefusals k words n ∷ [])
+unfolding rising numbersOf digestRefusals feedRefusals finishRefusals lentFeedRefusals lentFinishRefusals outputRefusals finishOutputRefusals lentFinishOutputRefusals wordsRefusal widthRefusal outRefusal oddRefusal longRefusal recordRefusal keptRefusal
+falls code words odd n m b k = (refl, (refl, (refl, (refl, (refl, (refl, (refl, (refl, tt))))))))

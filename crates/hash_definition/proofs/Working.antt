@@ -16,6 +16,7 @@ use Rattle.definition.specs.Refusal.{Refusal, RECORD, pick, firstOf, known, whe
 use Rattle.hash_definition.specs.Record.{recordLength, encode, decode, bytesFed, wellHeld, wellKept, wellFormed}
 use Rattle.hash_definition.specs.Calls.{outcome, recordRefusal, bufferRefusal, startRefusals, feedRefusals, finishRefusals, startOutcome, feedBitsOutcome, finishOutcome}
 use Rattle.hash_definition.specs.Lent.{lentOutcome, keptRefusal, lentStartRefusals, lentFeedRefusals, lentFinishRefusals, lentStartOutcome, lentFeedBitsOutcome, lentFinishOutcome}
+use Rattle.hash_definition.specs.Output.{finishOutputRefusals, lentFinishOutputRefusals, finishOutputOutcome, lentFinishOutputOutcome}
 use Rattle.hash_definition.specs.Said.{Typed, inBytes}
 use Rattle.definition.proofs.Conditions.{both-true}
 use Rattle.definition.proofs.Bounds.{word-in}
@@ -55,6 +56,10 @@ module _ (k : Kept) (t : Typed k) where
     pub lent-finish : (out : List ℕ) → finishOutcome (encode k) out ≡ lentFinishOutcome k out
     unfolding finishOutcome finishRefusals recordRefusal lentFinishOutcome lentFinishRefusals keptRefusal
     lent-finish out = rw (lent-formed, lent-decoded)
+
+    pub lent-finish-output : (words : ℕ) (out : List ℕ) → finishOutputOutcome (encode k) words out ≡ lentFinishOutputOutcome k words out
+    unfolding finishOutputOutcome finishOutputRefusals recordRefusal lentFinishOutputOutcome lentFinishOutputRefusals keptRefusal
+    lent-finish-output words out = rw (lent-formed, lent-decoded)
 
   -- starting: the same number, and the bytes of the working state at the end
   pub lent-start : (code : ℕ) → startOutcome code (encode k) ≡ inBytes (lentStartOutcome code k)
@@ -116,3 +121,7 @@ held-feed b piece odd h w = rw (w, formed b w .holds) (ap (outcome _ _) (sym (en
 pub held-finish : (b out : List ℕ) → wellFormed b ≡ true → finishOutcome b out ≡ lentFinishOutcome (decode b) out
 unfolding finishOutcome finishRefusals recordRefusal lentFinishOutcome lentFinishRefusals keptRefusal
 held-finish b out w = rw (w, formed b w .holds)
+
+pub held-finish-output : (b : List ℕ) (words : ℕ) (out : List ℕ) → wellFormed b ≡ true → finishOutputOutcome b words out ≡ lentFinishOutputOutcome (decode b) words out
+unfolding finishOutputOutcome finishOutputRefusals recordRefusal lentFinishOutputOutcome lentFinishOutputRefusals keptRefusal
+held-finish-output b words out w = rw (w, formed b w .holds)

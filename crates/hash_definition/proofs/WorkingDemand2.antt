@@ -38,7 +38,7 @@ module _ (odd : ℕ) (y z : List ℕ) (e : Ends odd z) where
       go (suc o) h = unfold wholeBytes in omega (arith, length-append y z, h (zero-lt-suc o))
 
 -- 17 is not given where nothing odd is held and the piece can end so
-no-odd : (held odd n : ℕ) → held ≡ 0 → (odd ≤ 7) × (0 < odd → 0 < n) → oddRefusal held odd n ≡ (ODD, false)
+pub no-odd : (held odd n : ℕ) → held ≡ 0 → (odd ≤ 7) × (0 < odd → 0 < n) → oddRefusal held odd n ≡ (ODD, false)
 unfolding oddRefusal
 no-odd held zero n z e = rw z
 no-odd held (suc o) n z e = rw (z, le-ltb 7 (suc o) (e .0), ne-eqb (suc o) 0 (λ m. omega arith), ne-eqb n 0 (λ m. omega (arith, e .1 (zero-lt-suc o))))
@@ -79,19 +79,20 @@ pub lent-finish-done : (k : Kept) (out : List ℕ) → wellKept k ≡ true → b
 unfolding lentFinishOutcome outcome lentFinishRefusals keptRefusal outRefusal firstOf pick whenDone
 lent-finish-done k out w h = rw (w, le-ltb (length out) (bytesAt (k .code)) h)
 
--- a message of whole bytes and odd bits, within the limit, and room for its digest
+-- what a message of whole bytes and odd bits, within the limit, leads to is sound
+pub kept-bits-sound : (code : ℕ) (m : List ℕ) (odd : ℕ) → known code ≡ true → Ends odd m → 8 * wholeBytes odd (length m) + odd < limitAt code
+    → Sound (fedBits (started code) m odd)
+kept-bits-sound code m odd k e h =
+    fed-bits-sound (started code) m odd (started-sound code k) (unfold started in refl) e
+    (unfold started bytesFed countOf in omega arith)
+
+-- and with room for its digest
 module _ (code : ℕ) (m : List ℕ) (odd : ℕ) (out : List ℕ) (k : known code ≡ true) (e : Ends odd m)
     (h : 8 * wholeBytes odd (length m) + odd < limitAt code) (l : bytesAt code ≤ length out) where
-  -- what it leads to is sound
-  pub kept-bits-sound : Sound (fedBits (started code) m odd)
-  kept-bits-sound =
-      fed-bits-sound (started code) m odd (started-sound code k) (unfold started in refl) e
-      (unfold started bytesFed countOf in omega arith)
-
   -- finishing gives Luffa of the bit string
   pub kept-finish-done : lentFinishOutcome (fedBits (started code) m odd) out ≡ done (overwrite (luffaOfBits code (bitsIn m odd)) out)
   kept-finish-done =
-      rw (← kept-finished code m odd e) (lent-finish-done (fedBits (started code) m odd) out (kept-bits-sound .well) (room odd))
+      rw (← kept-finished code m odd e) (lent-finish-done (fedBits (started code) m odd) out (kept-bits-sound code m odd k e h .well) (room odd))
     where
       room : (o : ℕ) → bytesAt (fedBits (started code) m o .code) ≤ length out
       room zero = unfold fedBits fed started in l
@@ -173,6 +174,13 @@ module _ (code : ℕ) (ps : List (List ℕ)) (last : List ℕ) (odd : ℕ) (e : 
   last-fed =
       lent-feed-done (keptOf code x) last odd (kept-sound code x e front-within .well) (unfold fed started in refl) o (unfold fed started in last-within)
       ∙ ap taken (fed-bits-fed (started code) x last odd (unfold started in refl) o)
+
+-- what is held after such pieces, fed in turn
+pub lent-after : (code : ℕ) (k : Kept) (ps : List (List ℕ)) (last : List ℕ) (odd : ℕ) → known code ≡ true → Ends odd last
+    → length (bitsIn (joined ps ++ last) odd) < limitAt code
+    → lentFeedBitsOutcome (lentFeedAll (lentStartOutcome code k .kept) ps .last) last odd .kept ≡ fedBits (started code) (joined ps ++ last) odd
+lent-after code k ps last odd e o h =
+    rw (lent-start-done code k e, fed-all code ps e (front-within code ps last odd e o h), last-fed code ps last odd e o h)
 
 -- and of every bit length under Table 1's limit: the last piece ends with odd bits or without
 pub lent-bits-demand2 : (code : ℕ) (k : Kept) (ps : List (List ℕ)) (last : List ℕ) (odd : ℕ) (out : List ℕ)

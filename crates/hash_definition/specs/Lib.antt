@@ -3,4 +3,5 @@
 pub mod Record
 pub mod Calls
 pub mod Lent
+pub mod Output
 pub mod Said

@@ -3,19 +3,21 @@
 use mathlib.Core.Path.{_≡_}
 use mathlib.Core.Bool.{true}
 use mathlib.Core.List.{List, [], _∷_, _++_}
-use Prim.Native.Nat.{ℕ, _^_, _<_, _≤_}
-use lib.ListN.{length, getD, replicate}
+use Prim.Native.Nat.{ℕ, _*_, _^_, _<_, _≤_}
+use lib.ListN.{length, getD, take, replicate}
 use Rattle.hash_definition.specs.declared.Kept.{Kept}
 use Rattle.hash_definition.specs.declared.Lent.{Lent}
 use Rattle.definition.specs.Block.{wordsOfAll}
 use Rattle.definition.specs.State.{five}
 use Rattle.definition.specs.Padding.{bitsIn}
-use Rattle.definition.specs.Luffa.{luffaOfBits, luffa}
+use Rattle.definition.specs.Final.{finalRounds}
+use Rattle.definition.specs.Luffa.{luffaOutput, luffaOfBits, luffa}
 use Rattle.definition.specs.Buffer.{overwrite, joined}
 use Rattle.definition.specs.Refusal.{LONG}
 use Rattle.hash_definition.specs.Record.{encode, decode, wellFormed, fedBits}
 use Rattle.hash_definition.specs.Calls.{Outcome, digestBitsOutcome, digestOutcome, startOutcome, feedBitsOutcome, feedOutcome, finishOutcome}
 use Rattle.hash_definition.specs.Lent.{lentStartOutcome, lentFeedBitsOutcome, lentFeedOutcome, lentFinishOutcome}
+use Rattle.hash_definition.specs.Output.{OutputOutcome, outputBitsOutcome, finishOutputOutcome, lentFinishOutputOutcome}
 
 -- 0, "done": a call that is done, and the buffer or the working state that it leaves
 abbrev pub done : List ℕ → Outcome
@@ -23,6 +25,14 @@ done buffer = record { number = 0; buffer = buffer }
 
 abbrev pub taken : Kept → Lent
 taken k = record { number = 0; kept = k }
+
+-- a number of words put out, and the output buffer
+abbrev pub putOut : (words : ℕ) → List ℕ → OutputOutcome
+putOut words buffer = record { answer = record { number = 0; rounds = finalRounds words }; buffer = buffer }
+
+-- its number and its buffer alone, as a call for a digest has them
+abbrev pub asDigest : OutputOutcome → Outcome
+asDigest o = record { number = o .answer .number; buffer = o .buffer }
 
 -- a refused call, and its buffer
 abbrev pub refused : (number : ℕ) → List ℕ → Outcome
@@ -85,6 +95,20 @@ pub record LentBitsDemand2 (code : ℕ) (k : Kept) (ps : List (List ℕ)) (last 
   pub ended : lentFeedBitsOutcome (lentFeedAll (lentStartOutcome code k .kept) ps .last) last odd .number ≡ 0
   pub finished : lentFinishOutcome (lentFeedBitsOutcome (lentFeedAll (lentStartOutcome code k .kept) ps .last) last odd .kept) out
       ≡ digestBitsOutcome code (joined ps ++ last) odd out
+
+-- Q-2: a number of words of such a message is Luffa's output of the bit string, as it is in one call, from the record and over the working state
+pub record OutputDemand2 (code words : ℕ) (buffer : List ℕ) (k : Kept) (ps : List (List ℕ)) (last : List ℕ) (odd : ℕ) (out : List ℕ) : Type 0 where
+  pub at-once : outputBitsOutcome code words (joined ps ++ last) odd out ≡ putOut words (overwrite (luffaOutput code words (bitsIn (joined ps ++ last) odd)) out)
+  pub in-pieces : finishOutputOutcome (feedBitsOutcome (feedAll (startOutcome code buffer .buffer) ps .last) last odd .buffer) words out
+      ≡ outputBitsOutcome code words (joined ps ++ last) odd out
+  pub lent-in-pieces : lentFinishOutputOutcome (lentFeedBitsOutcome (lentFeedAll (lentStartOutcome code k .kept) ps .last) last odd .kept) words out
+      ≡ outputBitsOutcome code words (joined ps ++ last) odd out
+
+-- "At one code, shorter output is the beginning of longer output": both are put out, and what the first puts out stands in front of the second
+pub record Begins (m n : ℕ) (shorter longer : OutputOutcome) : Type 0 where
+  pub shorter-done : shorter .answer ≡ record { number = 0; rounds = finalRounds m }
+  pub longer-done : longer .answer ≡ record { number = 0; rounds = finalRounds n }
+  pub begins : take (4 * m) (shorter .buffer) ≡ take (4 * m) (longer .buffer)
 
 -- "a well-formed record always has one defined continuation": feeding a piece to a record is accepted, the record that it leaves is well formed
 -- again, and it holds what was fed

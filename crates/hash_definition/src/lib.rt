@@ -26,3 +26,10 @@ pub struct Lent {
     pub number: u32,
     pub kept: Kept,
 }
+
+// What a call for longer output answers: the refusal number or 0, and the rounds of the final stage (document 02, Q-2).
+#[repr(C)]
+pub struct OutputAnswer {
+    pub number: u64,
+    pub rounds: u64,
+}

@@ -1,5 +1,5 @@
-// Whether what a kept hash record holds is well formed, and refusals 3, 17 and 4, which the calls over messages, records and lent working
-// states share (document 01, "The kept hash record"; document 02, Q-7).
+// Whether what a kept hash record holds is well formed, and refusals 3, 12, 17 and 4, which the calls over messages, records and lent working
+// states share (document 01, "The kept hash record"; document 02, Q-2 and Q-7).
 ghost use mathlib.Core.Path.{_≡_};
 ghost use mathlib.Core.List.{[], _∷_};
 ghost use Prim.Native.Nat.{_+_, _*_, _≤_};
@@ -14,6 +14,7 @@ ghost use Rattle.definition.specs.Refusal.{firstOf};
 ghost use Rattle.hash_definition.specs.Record.{allZero, heldOf, withHeld, countOf, wellHeld, wellKept};
 ghost use Rattle.hash_definition.specs.Calls.{oddRefusal, longRefusal};
 ghost use Rattle.hash_definition.specs.Lent.{keptRefusal};
+ghost use Rattle.hash_definition.specs.Output.{wordsRefusal};
 use definition::Block;
 use definition::State;
 use definition::Width;
@@ -123,6 +124,13 @@ fn well_kept(k: Kept) -> bool
     let unused = unused_zero(codes::width(k.code), s);
     let rest = well_held(k.code, held(k));
     rest & unused
+}
+
+// 12: no word is asked for, or more than 64.
+pub fn words(words: usize) -> u32
+    ensures { λ r. ⌜ r ≡ firstOf (wordsRefusal words ∷ []) ⌝ }
+{
+    refusals::when((words == 0) | (64 < words), refusals::WORDS)
 }
 
 // 3: what a record holds isn't well formed.

@@ -4,11 +4,13 @@
 ghost use mathlib.Core.Path.{_≡_};
 ghost use Rattle.hash_definition.specs.Calls.{digestBitsOutcome, digestOutcome, startOutcome, feedBitsOutcome, feedOutcome, finishOutcome};
 ghost use Rattle.hash_definition.specs.Lent.{lentStartOutcome, lentFeedBitsOutcome, lentFeedOutcome, lentFinishOutcome};
+ghost use Rattle.hash_definition.specs.Output.{outputBitsOutcome, outputOutcome, finishOutputOutcome, lentFinishOutputOutcome};
 ghost use Rattle.sheet_definition.specs.SheetCalls.{buildOutcome, changeOutcome, appendOutcome, dropOutcome};
 ghost use Rattle.plan_definition.specs.Check.{verdict, answerOf};
 ghost use Rattle.brine_definition.specs.Statement.{brineOutcome};
 use brine_definition::Statement;
 use hash_definition::Kept;
+use hash_definition::OutputAnswer;
 use plan_definition::ContentAnswer;
 use sheet_definition::Answer;
 
@@ -26,6 +28,33 @@ pub extern "C" fn luffa_digest_bits(code: usize, message: &[u8], odd: usize, out
     ensures { λ r. ⌜ record { number = r; buffer = now (out .exit) } ≡ digestBitsOutcome code (now (message .entry)) odd (now (out .entry)) ⌝ }
 {
     hash::digest_bits(code, message, odd, out)
+}
+
+// Longer output of a message.
+#[no_mangle]
+pub extern "C" fn luffa_output(
+    code: usize,
+    words: usize,
+    message: &[u8],
+    out: &mut [u8],
+) -> OutputAnswer
+    ensures { λ r. ⌜ record { answer = r; buffer = now (out .exit) } ≡ outputOutcome code words (now (message .entry)) (now (out .entry)) ⌝ }
+{
+    hash::output(code, words, message, out)
+}
+
+// Longer output of a message that may end with odd bits.
+#[no_mangle]
+pub extern "C" fn luffa_output_bits(
+    code: usize,
+    words: usize,
+    message: &[u8],
+    odd: usize,
+    out: &mut [u8],
+) -> OutputAnswer
+    ensures { λ r. ⌜ record { answer = r; buffer = now (out .exit) } ≡ outputBitsOutcome code words (now (message .entry)) odd (now (out .entry)) ⌝ }
+{
+    hash::output_bits(code, words, message, odd, out)
 }
 
 // A fresh hash record at a code.
@@ -58,6 +87,14 @@ pub extern "C" fn luffa_finish(record: &[u8], out: &mut [u8]) -> u32
     ensures { λ r. ⌜ record { number = r; buffer = now (out .exit) } ≡ finishOutcome (now («record» .entry)) (now (out .entry)) ⌝ }
 {
     hash::finish(record, out)
+}
+
+// Longer output of what a hash record was fed.
+#[no_mangle]
+pub extern "C" fn luffa_finish_output(record: &[u8], words: usize, out: &mut [u8]) -> OutputAnswer
+    ensures { λ r. ⌜ record { answer = r; buffer = now (out .exit) } ≡ finishOutputOutcome (now («record» .entry)) words (now (out .entry)) ⌝ }
+{
+    hash::finish_output(record, words, out)
 }
 
 // A fresh working state at a code, in a struct that the caller lends.
@@ -106,6 +143,19 @@ pub extern "C" fn luffa_hash_finish(hash: &Kept, out: &mut [u8]) -> u32
 {
     let v = *hash;
     hash_working::finished_answer(v, out)
+}
+
+// Longer output of what a working state was fed.
+#[no_mangle]
+pub extern "C" fn luffa_hash_finish_output(
+    hash: &Kept,
+    words: usize,
+    out: &mut [u8],
+) -> OutputAnswer
+    ensures { λ r. ⌜ record { answer = r; buffer = now (out .exit) } ≡ lentFinishOutputOutcome (now (hash .entry)) words (now (out .entry)) ⌝ }
+{
+    let v = *hash;
+    hash_working::finished_output(v, words, out)
 }
 
 // All marks of a sheet, and its digest.

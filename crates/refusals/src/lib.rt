@@ -29,6 +29,8 @@ pub const CLAIM: u32 = 10;
 
 pub const STALE: u32 = 11;
 
+pub const WORDS: u32 = 12;
+
 pub const BATCH: u32 = 13;
 
 pub const ODD: u32 = 17;

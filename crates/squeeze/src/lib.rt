@@ -4,6 +4,8 @@ ghost use Prim.Native.Nat.{_/_, _<_, min};
 ghost use lib.ListN.{length, getD, replicate};
 ghost use Rattle.definition.specs.Word.{bytesOfAll};
 ghost use Rattle.definition.specs.Block.{zeroBlock, xorAll, wordsOf};
+ghost use Rattle.definition.specs.Round.{chain};
+ghost use Rattle.definition.specs.Padding.{padded, blocks};
 ghost use Rattle.definition.specs.State.{five, blocksIn};
 ghost use Rattle.definition.specs.Final.{finalRounds, final as finalOf};
 ghost use Rattle.definition.specs.Counted.{countedChain};
@@ -93,4 +95,24 @@ pub fn squeeze(w: Width, c: Counted, words: usize, out: &mut [u8]) -> Counted
         bytes::put_word(out, 4 * i, nth(q.z, i % 8));
     }
     q.counted
+}
+
+// The end of a message, from the state before it: its last bytes under a closing byte, then a number of words of the final stage, or as many
+// as the buffer has room for whole. The rounds told are those of the final stage alone, so their count begins with it.
+pub fn end(w: Width, s: State, rest: &[u8], closing: u8, words: usize, out: &mut [u8]) -> u64
+    ensures { λ r. ⌜ r ≡ finalRounds (min words (length (now (out .entry)) / 4)) ⌝ }
+    ensures { λ r. ⌜ now (out .exit) ≡ overwrite (bytesOfAll (finalOf w (min words (length (now (out .entry)) / 4)) (chain w (blocksIn w s) (blocks (padded closing (now (rest .entry))))))) (now (out .entry)) ⌝ }
+{
+    let c = Counted {
+        state: s,
+        rounds: 0,
+    };
+    let d = rounds::last::absorb_last(w, c, rest, closing);
+    let t = d.state;
+    let e = Counted {
+        state: t,
+        rounds: 0,
+    };
+    let f = squeeze(w, e, words, out);
+    f.rounds
 }

@@ -4,7 +4,7 @@ use native.Mathlib.Omega.{arith}
 use denote.Ref.{now}
 use borrow.Author.Needs.{needs}
 use lib.ListN.{length}
-use Rattle.hash.proofs.Output.{closing-whole}
+use Rattle.hash.proofs.Message.{closing-whole}
 use Rattle.hash.proofs.closing.Statement.{statement}
 use Rattle.hash.proofs.closing.Tie as tie
 

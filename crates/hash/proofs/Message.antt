@@ -1,4 +1,4 @@
--- A digest in the caller's buffer: what the rounds and the final stage leave there is what the definition says.
+-- A message in one call: what its rounds and the final stage put out is what the definition says.
 -- Assumes nothing.
 use mathlib.Core.Path.{_≡_, refl, sym}
 use mathlib.Core.List.{List}
@@ -14,7 +14,7 @@ use Rattle.definition.specs.State.{blocksIn, stateOf}
 use Rattle.definition.specs.Padding.{wholeBytes, bitsIn, closing, closingByte, highBits, padded, blocks}
 use Rattle.definition.specs.Final.{final}
 use Rattle.definition.specs.Width.{widthAt}
-use Rattle.definition.specs.Luffa.{wordsAt, outputOf, luffaOutput, luffaOfBits}
+use Rattle.definition.specs.Luffa.{outputOf, luffaOutput}
 use Rattle.definition.proofs.Chain.{blocks-of-start}
 use Rattle.definition.proofs.BitStrings.{output-bits}
 use Rattle.hash_definition.specs.Said.{Ends}
@@ -25,14 +25,14 @@ unfolding wholeBytes
 enough zero n e = omega arith
 enough (suc o) n e = omega (arith, e .0, e .1 (zero-lt-suc o))
 
--- from the starting variables, over a whole message: Luffa of its bits
-pub whole-message : (code : ℕ) (m : List ℕ) (odd n byte : ℕ) (s : State) → s ≡ stateOf (start (widthAt code)) → Ends odd m
+-- from the starting variables, over a whole message: Luffa's output of its bits
+pub whole-message : (code words : ℕ) (m : List ℕ) (odd n byte : ℕ) (s : State) → s ≡ stateOf (start (widthAt code)) → Ends odd m
     → n ≡ wholeBytes odd (length m) → byte ≡ closingByte odd (getD m n 0)
-    → bytesOfAll (final (widthAt code) (wordsAt code) (chain (widthAt code) (blocksIn (widthAt code) s) (blocks (padded byte (take n m)))))
-    ≡ luffaOfBits code (bitsIn m odd)
-unfolding outputOf luffaOutput luffaOfBits bitsIn
-whole-message code m odd n byte s e o w b =
-    rw (e, blocks-of-start, b, w) (sym (output-bits code (wordsAt code) (start (widthAt code)) m (wholeBytes odd (length m)) odd (o .0) (enough odd (length m) o)))
+    → bytesOfAll (final (widthAt code) words (chain (widthAt code) (blocksIn (widthAt code) s) (blocks (padded byte (take n m)))))
+    ≡ luffaOutput code words (bitsIn m odd)
+unfolding outputOf luffaOutput bitsIn
+whole-message code words m odd n byte s e o w b =
+    rw (e, blocks-of-start, b, w) (sym (output-bits code words (start (widthAt code)) m (wholeBytes odd (length m)) odd (o .0) (enough odd (length m) o)))
 
 -- a message whose bytes are all whole has no odd bits
 pub closing-whole : (odd n x : ℕ) → (0 < odd → 0 < n) → n ≤ wholeBytes odd n → closing ≡ closingByte odd x
