@@ -54,14 +54,18 @@ impl BitLuffa {
         }
     }
 
-    /// The first `count` words of the final stage for the bits fed.
-    pub fn finish(mut self, count: usize) -> Vec<u32> {
-        // Padding (3.1): a 1, and zeros until a block is full.
+    /// The hash with its last block taken (3.1): a 1, and zeros until a block is full.
+    pub fn padded(mut self) -> Luffa {
         self.update([true]);
         while !self.held.is_empty() {
             self.update([false]);
         }
-        self.hash.final_stage(count).0
+        self.hash
+    }
+
+    /// The first `count` words of the final stage for the bits fed.
+    pub fn finish(self, count: usize) -> Vec<u32> {
+        self.padded().final_stage(count).0
     }
 }
 

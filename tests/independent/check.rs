@@ -6,11 +6,11 @@
 
 use crate::luffa::*;
 use crate::sheet::{Record, Saved, Sheet, MARK_WORDS, MOST};
-use crate::{check_bits, check_brine, check_plan};
+use crate::{check_bits, check_brine, check_output, check_plan};
 use std::fmt::Debug;
 
 /// The hash values of "abc" (Appendix C).
-const ABC: [&[u32]; 4] = [
+pub const ABC: [&[u32]; 4] = [
     &[
         0xf29311b8, 0x7e9e40de, 0x7699be23, 0xfbeb5a47, 0xcb16ea4f, 0x5556d47c, 0xa40c12ad,
     ],
@@ -135,6 +135,7 @@ pub fn differences() -> Vec<String> {
     sheet_marks(&mut report, numbers);
     sheet_saves(&mut report, numbers);
     check_bits::differences(&mut report, numbers);
+    check_output::differences(&mut report, numbers);
     check_plan::differences(&mut report);
     check_brine::differences(&mut report);
     report.0

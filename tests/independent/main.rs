@@ -1,20 +1,23 @@
 //! A separately written Luffa program, to compare another one with. The hash is in luffa.rs; the
 //! four output lines are those of the digest program in the build requirements, `words` gives the
-//! longer outputs of section 5 of the Luffa specification 2.0.1, `bits` takes a message that stops
-//! inside a byte, `plan` is the check of a sheet's content, and `brine` the brine statement over a
-//! batch of sheets.
+//! longer output of document 02, `bits` takes a message that stops inside a byte, `plan` is the check
+//! of a sheet's content, and `brine` the brine statement over a batch of sheets.
 
 mod bits;
 mod brine;
 mod check;
 mod check_bits;
 mod check_brine;
+mod check_output;
 mod check_plan;
 mod luffa;
+mod output;
 mod plan;
 mod sheet;
 
+use bits::BitLuffa;
 use luffa::{digest, Luffa, CODES};
+use output::{Asked, Output};
 use plan::Well;
 use sheet::{MOST, RECORD_BYTES};
 use std::fs::File;
@@ -24,7 +27,8 @@ use std::process::ExitCode;
 
 const USAGE: &str = "\
 usage: independent               four digest lines for standard input
-       independent words CODE N  the first N words of the final stage, and its blank rounds
+       independent words CODE N [BITS]
+                                 N words of output, and their rounds; with BITS, for so many bits
        independent bits N        four digest lines for the first N bits of standard input
        independent pieces        a digest for each line `CODE HEX` of standard input
        independent plan          whether the records on standard input are a sound sheet
@@ -39,10 +43,13 @@ fn main() -> ExitCode {
     let arguments: Vec<&str> = arguments.iter().map(String::as_str).collect();
     let done = match arguments[..] {
         [] => four_lines(),
-        ["words", code, n] => match (code_of(code.as_bytes()), n.parse()) {
-            (Some(code), Ok(n)) if n >= 1 => final_words(code, n),
-            _ => return usage(),
-        },
+        ["words", code, n, ref bits @ ..] if bits.len() <= 1 => {
+            let bits: Result<Vec<u64>, _> = bits.iter().map(|bits| bits.parse()).collect();
+            match (code_of(code.as_bytes()), n.parse(), bits) {
+                (Some(code), Ok(n), Ok(bits)) => longer_output(code, n, bits.first().copied()),
+                _ => return usage(),
+            }
+        }
         ["bits", n] => match n.parse() {
             Ok(n) => bit_lines(n),
             Err(_) => return usage(),
@@ -138,24 +145,51 @@ fn four_lines() -> io::Result<ExitCode> {
     Ok(ExitCode::SUCCESS)
 }
 
-fn final_words(code: usize, n: usize) -> io::Result<ExitCode> {
-    let mut hash = [Luffa::new(CODES[code - 1].0)];
-    if feed(&mut hash)?.is_none() {
-        return over_limit();
+/// With `bits`, of so many bits of standard input, else of all its bytes.
+fn longer_output(code: usize, words: usize, bits: Option<u64>) -> io::Result<ExitCode> {
+    // What is printed needs no room, and how long the message is isn't known yet.
+    let room = usize::MAX;
+    let asked = Asked { words, room };
+    let refusals = output::of_message(code, asked, 0, 0);
+    if let Some(number) = refusals.first() {
+        return failed(&format!("{number}\n"));
     }
-    let (z, blank_rounds) = hash[0].finish(n);
-    print(&format!("{}\n{blank_rounds}\n", hex(&z)))?;
+    let w = CODES[code - 1].0;
+    let padded = if let Some(n) = bits {
+        let Some(bytes) = bytes_of_bits(n)? else {
+            return Ok(ExitCode::FAILURE);
+        };
+        let mut hash = BitLuffa::new(w);
+        hash.update(bits::bits_of(&bytes).take(n as usize));
+        hash.padded()
+    } else {
+        let mut hash = [Luffa::new(w)];
+        if feed(&mut hash)?.is_none() {
+            return over_limit();
+        }
+        hash[0].padded()
+    };
+    let Output { words, rounds, .. } = output::output(&refusals, asked, || padded);
+    print(&format!("{}\n{rounds}\n", hex(&words)))?;
     Ok(ExitCode::SUCCESS)
 }
 
-/// Fewer than 2^64 bits are a message at every code.
-fn bit_lines(n: u64) -> io::Result<ExitCode> {
+/// The bytes that the first n bits of standard input stand in, unless it has fewer.
+fn bytes_of_bits(n: u64) -> io::Result<Option<Vec<u8>>> {
     let mut bytes = Vec::new();
     input()?.take(n.div_ceil(8)).read_to_end(&mut bytes)?;
     if (bytes.len() as u64) < n.div_ceil(8) {
         eprintln!("standard input has fewer than {n} bits");
-        return Ok(ExitCode::FAILURE);
+        return Ok(None);
     }
+    Ok(Some(bytes))
+}
+
+/// Fewer than 2^64 bits are a message at every code.
+fn bit_lines(n: u64) -> io::Result<ExitCode> {
+    let Some(bytes) = bytes_of_bits(n)? else {
+        return Ok(ExitCode::FAILURE);
+    };
     let mut text = String::new();
     for code in 1..=CODES.len() {
         let message = bits::bits_of(&bytes).take(n as usize);
