@@ -1,7 +1,7 @@
 /*
  * luffa.h: Luffa digests (Luffa specification 2.0.1) of 224, 256, 384 and 512 bits, in one call or
- * piece by piece, of messages that may stop inside a byte, a sheet of records that is saved under its
- * digest, and a check of what its records mean.
+ * piece by piece, of messages that may stop inside a byte, with longer output where it is wanted, a sheet
+ * of records that is saved under its digest, and a check of what its records mean.
  *
  * Every call answers a number: LUFFA_DONE, or the first refusal that holds, in the order listed at
  * the call. A refused call has altered nothing, so look at the answer before you use a buffer. The
@@ -42,7 +42,7 @@ extern "C" {
 /* Answers. */
 #define LUFFA_DONE 0
 #define LUFFA_WIDTH 1  /* the code isn't 1 to 4 */
-#define LUFFA_OUT 2    /* the output buffer is shorter than the digest */
+#define LUFFA_OUT 2    /* the output buffer is shorter than the digest, or than the words asked for */
 #define LUFFA_RECORD 3 /* the hash record isn't well formed, or has another length */
 #define LUFFA_LONG 4   /* the message would have too many bits for the code */
 /* 5 to 11 are given by the sheet calls, and 5 by the calls on what a sheet means too. */
@@ -53,6 +53,8 @@ extern "C" {
 #define LUFFA_SIZE 9   /* the new record has another length */
 #define LUFFA_CLAIM 10 /* the claimed digest has another length */
 #define LUFFA_STALE 11 /* the claim isn't the digest of the sheet held */
+/* 12 is given by the calls for longer output. */
+#define LUFFA_WORDS 12 /* no word is asked for, or more than LUFFA_WORDS_MOST */
 /* 13 and 25 are given by luffa_plan_brine. */
 #define LUFFA_BATCH 13 /* too many sheets */
 #define LUFFA_LIST 25  /* a list has fewer places than the batch has records */
@@ -78,6 +80,43 @@ uint32_t luffa_digest(size_t code, const uint8_t *message, size_t message_len, u
  */
 uint32_t luffa_digest_bits(size_t code, const uint8_t *message, size_t message_len, size_t odd, uint8_t *out,
                            size_t out_len);
+
+/*
+ * Longer output (section 5 of the specification): the words that a digest is the beginning of. `words`
+ * is how many, 1 to LUFFA_WORDS_MOST, each four bytes, high byte first; they stand in the first bytes of
+ * out, and the bytes after them stay as they were. At one code shorter output is the beginning of longer
+ * output, and the digests at codes 1 to 4 are that of 7, 8, 12 and 16 words; codes 1 and 2 have the same
+ * words. So whoever has a message's digest has the beginning of its output. The specification points out
+ * that a longer output does not improve the security level of a code with a smaller state.
+ */
+#define LUFFA_WORDS_MOST 64
+
+/* number is the answer. Where done, rounds are those of the final stage alone, words / 8 rounded up; where
+   refused, 0. */
+struct luffa_output_answer {
+    uint64_t number, rounds;
+};
+
+/*
+ * Longer output of a whole message.
+ *   1 LUFFA_WIDTH   code isn't 1 to 4
+ *  12 LUFFA_WORDS   words is 0 or over LUFFA_WORDS_MOST
+ *   2 LUFFA_OUT     out_len is less than 4 * words
+ *   4 LUFFA_LONG    8 * message_len bits are 2^64 or more and code is 1 or 2
+ */
+struct luffa_output_answer luffa_output(size_t code, size_t words, const uint8_t *message, size_t message_len,
+                                        uint8_t *out, size_t out_len);
+
+/*
+ * The same of a message that may stop inside a byte, as in luffa_digest_bits. With odd 0 it is luffa_output.
+ *   1 LUFFA_WIDTH   code isn't 1 to 4
+ *  12 LUFFA_WORDS   words is 0 or over LUFFA_WORDS_MOST
+ *   2 LUFFA_OUT     out_len is less than 4 * words
+ *  17 LUFFA_ODD     odd is over 7, or it isn't 0 and message_len is
+ *   4 LUFFA_LONG    the bits are 2^64 or more and code is 1 or 2
+ */
+struct luffa_output_answer luffa_output_bits(size_t code, size_t words, const uint8_t *message, size_t message_len,
+                                             size_t odd, uint8_t *out, size_t out_len);
 
 /*
  * A message in pieces: start a record, feed it every piece in turn, finish it.
@@ -133,6 +172,16 @@ uint32_t luffa_feed_bits(uint8_t *record, size_t record_len, const uint8_t *piec
 uint32_t luffa_finish(const uint8_t *record, size_t record_len, uint8_t *out, size_t out_len);
 
 /*
+ * Longer output of what was fed so far, as luffa_output gives it. The record stays as it was, so that
+ * more words, or the digest, can be asked of it again.
+ *  12 LUFFA_WORDS   words is 0 or over LUFFA_WORDS_MOST, whatever the record
+ *   3 LUFFA_RECORD  the record isn't well formed; its code is judged here, never as 1
+ *   2 LUFFA_OUT     out_len is less than 4 * words
+ */
+struct luffa_output_answer luffa_finish_output(const uint8_t *record, size_t record_len, size_t words, uint8_t *out,
+                                               size_t out_len);
+
+/*
  * The same within one program, over a struct that the caller lends: each feed alters it where it
  * stands, and no bytes are read or written as a record. Its fields are the record's, as the machine
  * holds them, its count in two words, and the same is well formed. To store it or to hand it to
@@ -175,6 +224,15 @@ uint32_t luffa_hash_feed_bits(struct luffa_hash *hash, const uint8_t *piece, siz
  *   2 LUFFA_OUT     out_len is less than the digest's bytes at the struct's code
  */
 uint32_t luffa_hash_finish(const struct luffa_hash *hash, uint8_t *out, size_t out_len);
+
+/*
+ * Longer output of what was fed so far, as luffa_finish_output gives it.
+ *  12 LUFFA_WORDS   words is 0 or over LUFFA_WORDS_MOST, whatever the struct
+ *   3 LUFFA_RECORD  the struct isn't well formed; its code is judged here, never as 1
+ *   2 LUFFA_OUT     out_len is less than 4 * words
+ */
+struct luffa_output_answer luffa_hash_finish_output(const struct luffa_hash *hash, size_t words, uint8_t *out,
+                                                    size_t out_len);
 
 /*
  * A sheet is n records of 40 bytes, one after the other, n from 0 to LUFFA_SHEET_MOST. Its digest is
