@@ -1,5 +1,6 @@
 //! Each call made twice on the same bytes, by the archive and by the model: the number answered and
-//! every byte lent, with those around it, must agree. The calls over a message are in hash_calls.rs.
+//! every byte lent, with those around it, must agree. The calls over a message are in hash_calls.rs
+//! and output_calls.rs.
 
 use crate::brine_model::{self, Batch, BrineAnswer};
 use crate::plan_model::{self, ContentAnswer};

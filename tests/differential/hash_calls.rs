@@ -43,7 +43,7 @@ extern "C" {
 /// The struct's memory, which has no bytes between the fields, in numbers of 64 bits.
 const NUMBERS: usize = size_of::<Hash>() / 8;
 
-fn lend(hash: &Hash) -> Lent {
+pub fn lend(hash: &Hash) -> Lent {
     let numbers: [[u8; 8]; NUMBERS] = unsafe { std::mem::transmute(*hash) };
     Lent::elements(numbers.to_vec())
 }
@@ -54,7 +54,7 @@ fn first(hold: &[u64]) -> u32 {
 }
 
 /// The calls that take these odd bits: that with `_bits`, and where there are none the other.
-fn forms(odd: usize) -> &'static [bool] {
+pub fn forms(odd: usize) -> &'static [bool] {
     if odd == 0 {
         &[true, false]
     } else {

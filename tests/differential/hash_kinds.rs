@@ -27,7 +27,7 @@ pub fn see_digest(met: &mut Met, message: &[u8], odd: usize, hold: &[u64]) {
 }
 
 /// In which way there are no such odd bits.
-fn no_odd(call: &str, bytes: &[u8], odd: usize) -> String {
+pub fn no_odd(call: &str, bytes: &[u8], odd: usize) -> String {
     match bytes {
         _ if odd > MOST_ODD => format!("{call} 17, odd {odd}"),
         [] => format!("{call} 17, odd {odd} of no bytes"),
@@ -36,7 +36,7 @@ fn no_odd(call: &str, bytes: &[u8], odd: usize) -> String {
 }
 
 /// Whether the odd byte has bits set that aren't the message's.
-fn see_low_bits(met: &mut Met, call: &str, bytes: &[u8], odd: usize) {
+pub fn see_low_bits(met: &mut Met, call: &str, bytes: &[u8], odd: usize) {
     if odd > 0 && bytes.last().is_some_and(|last| last << odd != 0) {
         met.see(format!("{call} done, odd {odd}, low bits set"));
     }

@@ -6,6 +6,7 @@ use crate::met::Met;
 use crate::model::{
     digest_bytes, read, state_words, write, Hash, COUNT, MOST_ODD, PENDING, RECORD, STATE,
 };
+use crate::outputs;
 use crate::{Agreed, Numbers};
 
 /// Numbers of odd bits that no message has, most of them such as would do once they are cut.
@@ -68,7 +69,7 @@ impl Numbers {
         hash
     }
 
-    fn any_hash(&mut self, code: usize, odd: usize) -> Hash {
+    pub fn any_hash(&mut self, code: usize, odd: usize) -> Hash {
         let count = self.count(code);
         self.hash(code, count, odd)
     }
@@ -110,6 +111,7 @@ pub fn message(numbers: &mut Numbers, met: &mut Met) -> Agreed {
         feed(&mut record, &[], 0, met)?;
         let mut pieced = numbers.bytes(digest_bytes(code));
         finish(&record, &mut pieced, met)?;
+        outputs::of_record(numbers, &record, met)?;
         if whole.len() >= pieced.len() && !whole.starts_with(&pieced) {
             return Err(format!(
                 "{n} bytes at code {code}, odd {odd}: pieces and whole differ\n"
@@ -274,24 +276,30 @@ pub fn malformed(numbers: &mut Numbers, met: &mut Met) -> Agreed {
         if read(&record).is_some_and(|hash| hash.well_formed()) {
             return Err(format!("{what} leaves a record well formed\n"));
         }
-        met.see(format!("malformed: {what}"));
-        refused(numbers, record.clone(), met)?;
+        let what = format!("malformed: {what}");
+        met.see(what.clone());
+        refused(numbers, &what, record.clone(), met)?;
         if record.len() == RECORD && numbers.between(0, 1) == 0 {
             for at in (0..RECORD).filter(|&at| record[at] != sound[at]) {
                 worst[at] = record[at];
             }
         }
     }
-    refused(numbers, worst, met)
+    refused(numbers, "malformed: some ways", worst, met)
 }
 
-fn refused(numbers: &mut Numbers, mut record: Vec<u8>, met: &mut Met) -> Agreed {
+fn refused(numbers: &mut Numbers, what: &str, mut record: Vec<u8>, met: &mut Met) -> Agreed {
     let n = numbers.length(300);
     let odd = numbers.odd();
     feed(&mut record, &numbers.bytes(n), odd, met)?;
     feed(&mut record, &[], 0, met)?;
     let code = numbers.code();
-    finish(&record, &mut numbers.output(code), met)
+    finish(&record, &mut numbers.output(code), met)?;
+    // Every way comes so often that a third of its records will do.
+    if numbers.between(0, 2) == 0 && outputs::of_record(numbers, &record, met)? == 3 {
+        met.see(format!("longer output, {what}"));
+    }
+    Ok(())
 }
 
 /// A struct whose code or odd bits no record can have: cut to a byte, they would do.
@@ -310,10 +318,15 @@ pub fn malformed_struct(numbers: &mut Numbers, met: &mut Met) -> Agreed {
             "odd"
         }
     };
-    met.see(format!("malformed: struct's {what}, bit {bit}"));
+    let what = format!("malformed: struct's {what}, bit {bit}");
+    met.see(what.clone());
     let (n, odd) = (numbers.length(100), numbers.odd());
     hash_feed(&mut hash, &numbers.bytes(n), odd, met)?;
-    hash_finish(&hash, &mut numbers.output(code), met)
+    hash_finish(&hash, &mut numbers.output(code), met)?;
+    if outputs::of_struct(numbers, &hash, met)? == 3 {
+        met.see(format!("longer output, {what}"));
+    }
+    Ok(())
 }
 
 /// Codes, odd bits and lengths of any kind.

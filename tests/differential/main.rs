@@ -1,6 +1,6 @@
 //! The archive against a model of its calls over the separately written program, on random messages,
-//! cuts, records, sheets, plans and batches: differential [SEED [CASES]]. Case k of a seed is case 0 of
-//! the seed k higher, so that one that failed is run again alone.
+//! cuts, records, numbers of words, sheets, plans and batches: differential [SEED [CASES]]. Case k of a
+//! seed is case 0 of the seed k higher, so that one that failed is run again alone.
 
 mod brine_kinds;
 mod brine_model;
@@ -12,6 +12,9 @@ mod hashes;
 mod histories;
 mod met;
 mod model;
+mod output_calls;
+mod output_kinds;
+mod outputs;
 mod plan_kinds;
 mod plan_model;
 mod plans;
@@ -25,6 +28,8 @@ mod brine;
 #[path = "../independent/luffa.rs"]
 #[allow(dead_code)]
 mod luffa;
+#[path = "../independent/output.rs"]
+mod output;
 #[path = "../independent/plan.rs"]
 #[allow(dead_code)]
 mod plan;
@@ -102,6 +107,9 @@ type Agreed = Result<(), String>;
 /// The cases of a run that isn't told how many.
 const CASES: u64 = 8000;
 
+/// The messages and free records of a case that longer output is asked of.
+const OUTPUTS: usize = 4;
+
 /// The plans of a case.
 const PLANS: usize = 6;
 
@@ -114,6 +122,10 @@ fn case(seed: u64, met: &mut Met) -> Agreed {
         hashes::malformed(numbers, met)?;
         hashes::malformed_struct(numbers, met)?;
         hashes::arguments(numbers, met)?;
+    }
+    for _ in 0..OUTPUTS {
+        outputs::message(numbers, met)?;
+        outputs::free_record(numbers, met)?;
     }
     histories::history(numbers, met)?;
     for _ in 0..PLANS {
@@ -143,6 +155,7 @@ fn main() {
     }
     let unmet = [
         hash_kinds::print(&met),
+        output_kinds::print(&met),
         histories::print(&met),
         plan_kinds::print(&met),
         brine_kinds::print(&met),

@@ -104,6 +104,11 @@ impl Hash {
         }
     }
 
+    /// The hash with its last block taken.
+    pub fn padded(&self) -> Luffa {
+        self.under_way().padded()
+    }
+
     /// The digest of what was fed.
     pub fn finish(&self) -> Vec<u8> {
         bytes_of(&self.under_way().finish(CODES[self.code - 1].1))
