@@ -65,27 +65,6 @@ static void known_answers(void)
         }
 }
 
-/* The source's 3.1 and 3.3 by hand: the bits, a 1 and zeros are fed as whole blocks, then for each eight
-   words of the digest a block of zeros, after which the blocks of the state are added up. */
-static void by_hand(size_t code, const uint8_t *message, size_t bits, uint8_t *digest)
-{
-    static const uint8_t blank[32];
-    uint8_t record[LUFFA_RECORD_BYTES], padded[96] = {0};
-
-    for (size_t i = 0; i < bits; i++)
-        padded[i / 8] |= message[i / 8] & (0x80 >> i % 8);
-    padded[bits / 8] |= 0x80 >> bits % 8;
-    start_call(LUFFA_DONE, code, sizeof record, record);
-    feed_call(LUFFA_DONE, record, sizeof record, padded, 32 * (bits / 256 + 1));
-    for (size_t i = 0; i < digest_bytes[code]; i++) {
-        if (i % 32 == 0)
-            feed_call(LUFFA_DONE, record, sizeof record, blank, sizeof blank);
-        digest[i] = 0;
-        for (size_t j = 0; j < state_bytes[code]; j += 32)
-            digest[i] ^= record[STATE + j + i % 32];
-    }
-}
-
 /* The one-call digest, and start, feed and two finishes, give this digest. */
 static void digest_is(const uint8_t *digest, size_t code, const uint8_t *message, size_t bits)
 {
@@ -108,7 +87,7 @@ static void which_bits_count(size_t code, const uint8_t *message, size_t bits)
     uint8_t digest[LUFFA_512_BYTES], other[LUFFA_512_BYTES], changed[96];
     size_t last = bits / 8, odd = bits % 8;
 
-    by_hand(code, message, bits, digest);
+    by_hand(code, message, bits, digest_bytes[code] / 4, digest);
     memcpy(changed, message, sizeof changed);
     for (int low = 0; odd > 0 && low <= 0xff >> odd; low += 1 + low / 4) {
         changed[last] = (uint8_t)(odd_byte(message[last], odd) | low);
@@ -152,7 +131,7 @@ int main(void)
     fill(message, sizeof message);
     for (size_t code = 1; code <= 4; code++) {
         for (size_t bits = 0; bits <= 520; bits++) {
-            by_hand(code, message, bits, digest);
+            by_hand(code, message, bits, digest_bytes[code] / 4, digest);
             digest_is(digest, code, message, bits);
         }
         /* All about the end of a block, and some before. */

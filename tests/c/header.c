@@ -15,7 +15,7 @@ HOLDS(LUFFA_LIMIT == ((uint64_t)1 << 61) - 1);
 HOLDS(LUFFA_DONE == 0 && LUFFA_WIDTH == 1 && LUFFA_OUT == 2 && LUFFA_RECORD == 3 && LUFFA_LONG == 4);
 HOLDS(LUFFA_SHEET == 5 && LUFFA_MARKS == 6 && LUFFA_PLACE == 7 && LUFFA_FULL == 8 && LUFFA_SIZE == 9);
 HOLDS(LUFFA_CLAIM == 10 && LUFFA_STALE == 11 && LUFFA_BATCH == 13 && LUFFA_LIST == 25 && LUFFA_BATCH_MOST == 64);
-HOLDS(LUFFA_ODD == 17);
+HOLDS(LUFFA_ODD == 17 && LUFFA_WORDS == 12 && LUFFA_WORDS_MOST == 64);
 HOLDS(LUFFA_SHEET_MOST == 1024 && LUFFA_SHEET_RECORD_BYTES == 40 && LUFFA_MARK_WORDS == 40);
 HOLDS(LUFFA_MARKS_FOR(0) == 40 && LUFFA_MARKS_FOR(3) == 40 && LUFFA_MARKS_FOR(4) == 80);
 HOLDS(LUFFA_MARKS_FOR(LUFFA_SHEET_MOST) == 10280 && LUFFA_MARKS_FOR(1 + 2) == 40);
@@ -34,6 +34,8 @@ HOLDS(sizeof(struct luffa_content_answer) == 24 && offsetof(struct luffa_content
 HOLDS(sizeof(struct luffa_brine_answer) == 40 && offsetof(struct luffa_brine_answer, number) == 0 &&
       offsetof(struct luffa_brine_answer, sound) == 8 && offsetof(struct luffa_brine_answer, faulted) == 16 &&
       offsetof(struct luffa_brine_answer, intake) == 24 && offsetof(struct luffa_brine_answer, overloaded) == 32);
+HOLDS(sizeof(struct luffa_output_answer) == 16 && offsetof(struct luffa_output_answer, number) == 0 &&
+      offsetof(struct luffa_output_answer, rounds) == 8);
 HOLDS(sizeof(struct luffa_hash) == 224 && offsetof(struct luffa_hash, code) == 0 &&
       offsetof(struct luffa_hash, odd) == 8 && offsetof(struct luffa_hash, state) == 16 &&
       offsetof(struct luffa_hash, pending) == 176 && offsetof(struct luffa_hash, count_high) == 208 &&
@@ -49,6 +51,14 @@ static uint32_t (*const hash_start)(size_t, struct luffa_hash *) = luffa_hash_st
 static uint32_t (*const hash_feed)(struct luffa_hash *, const uint8_t *, size_t) = luffa_hash_feed;
 static uint32_t (*const hash_feed_bits)(struct luffa_hash *, const uint8_t *, size_t, size_t) = luffa_hash_feed_bits;
 static uint32_t (*const hash_finish)(const struct luffa_hash *, uint8_t *, size_t) = luffa_hash_finish;
+
+typedef struct luffa_output_answer words;
+static words (*const output)(size_t, size_t, const uint8_t *, size_t, uint8_t *, size_t) = luffa_output;
+static words (*const output_bits)(size_t, size_t, const uint8_t *, size_t, size_t, uint8_t *,
+                                  size_t) = luffa_output_bits;
+static words (*const finish_output)(const uint8_t *, size_t, size_t, uint8_t *, size_t) = luffa_finish_output;
+static words (*const hash_finish_output)(const struct luffa_hash *, size_t, uint8_t *,
+                                         size_t) = luffa_hash_finish_output;
 
 typedef struct luffa_sheet_answer answer;
 static answer (*const build)(size_t, const uint8_t *, size_t, size_t, uint32_t *, size_t, uint8_t *,
@@ -82,6 +92,10 @@ int main(void)
            hash_start(LUFFA_512, &hash) != LUFFA_DONE || hash_feed(&hash, NULL, 0) != LUFFA_DONE ||
            hash_feed_bits(&hash, line, sizeof line, 7) != LUFFA_DONE ||
            hash_finish(&hash, out, sizeof out) != LUFFA_DONE ||
+           output(LUFFA_224, 16, NULL, 0, out, sizeof out).rounds != 2 ||
+           output_bits(LUFFA_224, 1, line, sizeof line, 7, out, sizeof out).rounds != 1 ||
+           finish_output(record, sizeof record, LUFFA_WORDS_MOST, out, sizeof out).number != LUFFA_OUT ||
+           hash_finish_output(&hash, LUFFA_WORDS_MOST + 1, out, sizeof out).number != LUFFA_WORDS ||
            build(LUFFA_512, NULL, 0, 0, marks, LUFFA_MARKS_FOR(0), claim, sizeof claim).rounds != 3 ||
            append(LUFFA_512, sheet, sizeof sheet, 0, marks, LUFFA_MARKS_FOR(0), line, sizeof line, claim, sizeof claim,
                   out, sizeof out).count != 1 ||

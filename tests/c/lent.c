@@ -5,19 +5,6 @@
 
 static uint8_t message[300];
 
-static struct luffa_hash in_struct(const uint8_t *record)
-{
-    bytes_fed count = count_of(record);
-    struct luffa_hash hash = {
-        .code = record[0], .odd = record[1], .count_high = (uint64_t)(count >> 64), .count_low = (uint64_t)count};
-
-    for (size_t i = 0; i < 40; i++)
-        for (size_t j = 0; j < 4; j++)
-            hash.state[i] = hash.state[i] << 8 | record[STATE + 4 * i + j];
-    memcpy(hash.pending, record + PENDING, sizeof hash.pending);
-    return hash;
-}
-
 /* A record and the struct with what it holds, all calls made over both. */
 struct pair {
     uint8_t record[LUFFA_RECORD_BYTES];
@@ -174,6 +161,8 @@ static void refused(struct luffa_hash hash)
     hash_feed_call(LUFFA_RECORD, &hash, message, sizeof message);
     hash_finish_call(LUFFA_RECORD, &hash, 0, NULL);
     hash_finish_call(LUFFA_RECORD, &hash, LUFFA_512_BYTES, NULL);
+    hash_finish_output_call(LUFFA_RECORD, &hash, 1, 4, NULL);
+    hash_finish_output_call(LUFFA_RECORD, &hash, MOST_WORDS, 0, NULL);
 }
 
 /* What is well formed with one thing in it changed. */

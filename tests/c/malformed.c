@@ -1,5 +1,6 @@
 /* Every way in which a record can be malformed, one at a time: each is refused 3 by luffa_feed and
-   luffa_finish, before any other number. What may be anything in a well-formed record is taken. */
+   luffa_finish, before any other number, and by luffa_finish_output, before 2. What may be anything in
+   a well-formed record is taken. */
 #include "test.h"
 
 static uint8_t piece[64];
@@ -16,6 +17,8 @@ static void refused(const uint8_t *record, size_t record_len)
     finish_call(LUFFA_RECORD, copy, record_len, 0, NULL);
     finish_call(LUFFA_RECORD, copy, record_len, LUFFA_224_BYTES - 1, NULL);
     finish_call(LUFFA_RECORD, copy, record_len, LUFFA_512_BYTES, NULL);
+    finish_output_call(LUFFA_RECORD, copy, record_len, 1, 4, NULL);
+    finish_output_call(LUFFA_RECORD, copy, record_len, MOST_WORDS, 0, NULL);
 }
 
 /* Puts `value` in one byte, which must not be changed in a well-formed record. */

@@ -1,20 +1,8 @@
 /* The refusals of the one-call digest and of luffa_start, in their order. Those of feed and finish are
    in malformed.c (3, also before 17, 4 and 2), bits.c (17, also before 4), limit.c (4) and digests.c
-   (2). The digest's 4 can't be had: no machine can lend a message of 2^61 bytes. */
+   (2), and those of longer output in output.c. The 4 of a call for a whole message can't be had: no
+   machine can lend a message of 2^61 bytes. */
 #include "test.h"
-
-/* Codes that aren't 1 to 4, among them such as are once they are cut to 8, 16 or 32 bits. */
-static const size_t unknown[] = {
-    0,           5,
-    6,           7,
-    8,           255,
-    256,         257,
-    260,         65536 + 2,
-    1u << 31,    (size_t)1 << 32,
-    4294967297u, 4294967300u,
-    1ul << 63,   (1ul << 63) + 1,
-    SIZE_MAX,    SIZE_MAX - 2,
-};
 
 /* Odd bits that the message doesn't have: 17 where the code is known and the output buffer long enough. */
 static void no_odd_bits(uint8_t *message, size_t message_len, size_t odd)
@@ -35,13 +23,13 @@ int main(void)
     uint8_t message[100], record[LUFFA_RECORD_BYTES];
 
     fill(message, sizeof message);
-    for (size_t i = 0; i < sizeof unknown / sizeof *unknown; i++) {
+    for (size_t i = 0; i < COUNT_OF(no_code); i++) {
         /* An unknown code has no digest length, so that no buffer is too short for it. */
         for (size_t out_len = 0; out_len <= 100; out_len++)
             for (size_t m = 0; m < 4; m++)
-                digest_call(LUFFA_WIDTH, unknown[i], message, message_lens[m], out_len, NULL);
+                digest_call(LUFFA_WIDTH, no_code[i], message, message_lens[m], out_len, NULL);
         for (size_t record_len = 0; record_len <= 2 * LUFFA_RECORD_BYTES; record_len++)
-            start_call(LUFFA_WIDTH, unknown[i], record_len, NULL);
+            start_call(LUFFA_WIDTH, no_code[i], record_len, NULL);
     }
     for (size_t code = 1; code <= 4; code++) {
         for (size_t out_len = 0; out_len < digest_bytes[code]; out_len++)

@@ -142,8 +142,43 @@ static int answered(uint32_t got, uint32_t want, const struct lent *record)
 const size_t digest_bytes[5] = {0, LUFFA_224_BYTES, LUFFA_256_BYTES, LUFFA_384_BYTES, LUFFA_512_BYTES};
 const size_t state_bytes[5] = {0, 96, 96, 128, 160};
 
+const size_t no_code[18] = {
+    0,           5,
+    6,           7,
+    8,           255,
+    256,         257,
+    260,         65536 + 2,
+    1u << 31,    (size_t)1 << 32,
+    4294967297u, 4294967300u,
+    1ul << 63,   (1ul << 63) + 1,
+    SIZE_MAX,    SIZE_MAX - 2,
+};
+
 const size_t no_odd[10] = {
     8, 9, 255, 256, 257, 65539, (size_t)1 << 32, ((size_t)1 << 32) + 1, ((size_t)1 << 63) + 5, SIZE_MAX,
+};
+
+const size_t no_words[20] = {
+    0,
+    MOST_WORDS + 1,
+    MOST_WORDS + 2,
+    128,
+    255,
+    256,
+    256 + 1,
+    256 + MOST_WORDS,
+    65536 + 7,
+    (size_t)1 << 31,
+    (size_t)1 << 32,
+    ((size_t)1 << 32) + 1,
+    ((size_t)1 << 32) + MOST_WORDS,
+    (size_t)1 << 62,
+    ((size_t)1 << 62) + 1,
+    ((size_t)1 << 62) + MOST_WORDS,
+    (size_t)1 << 63,
+    ((size_t)1 << 63) + 8,
+    SIZE_MAX - MOST_WORDS + 1,
+    SIZE_MAX,
 };
 
 bytes_fed count_of(const uint8_t *record)
@@ -181,6 +216,19 @@ void any_odd_record(uint8_t *record, size_t code, bytes_fed count, size_t odd)
 }
 
 void any_record(uint8_t *record, size_t code, bytes_fed count) { any_odd_record(record, code, count, 0); }
+
+struct luffa_hash in_struct(const uint8_t *record)
+{
+    bytes_fed count = count_of(record);
+    struct luffa_hash hash = {
+        .code = record[0], .odd = record[1], .count_high = (uint64_t)(count >> 64), .count_low = (uint64_t)count};
+
+    for (size_t i = 0; i < 40; i++)
+        for (size_t j = 0; j < 4; j++)
+            hash.state[i] = hash.state[i] << 8 | record[STATE + 4 * i + j];
+    memcpy(hash.pending, record + PENDING, sizeof hash.pending);
+    return hash;
+}
 
 static int zeros(const uint8_t *bytes, size_t n)
 {
@@ -387,6 +435,92 @@ void hash_finish_call(uint32_t want, const struct luffa_hash *hash, size_t out_l
     check(kept(&l, 0) && kept(&o, written), "finish of a struct into %zu, answer %u: wrote outside the digest", out_len, got);
     if (digest != NULL)
         memcpy(digest, o.bytes, written);
+}
+
+/* ---- Longer output. */
+
+/* Judges the answer of a call for so many words at a code of what `in` lends, and what it wrote to `o`. */
+static void worded(struct luffa_output_answer got, uint64_t want, size_t words, const char *of, size_t code,
+                   const struct lent *in, const struct lent *o, uint8_t *output)
+{
+    uint64_t rounds = want == LUFFA_DONE ? (words + 7) / 8 : 0;
+    size_t written = want == LUFFA_DONE ? 4 * words : 0;
+
+    check(got.number == want && got.rounds == rounds,
+          "%zu words of a %s of %zu bytes at code %zu into %zu: answered %llu, %llu rounds, wanted %llu, %llu", words,
+          of, in->n, code, o->n, (unsigned long long)got.number, (unsigned long long)got.rounds,
+          (unsigned long long)want, (unsigned long long)rounds);
+    check(kept(in, 0) && kept(o, written),
+          "%zu words of a %s of %zu bytes at code %zu into %zu, answer %u: wrote outside the words", words, of, in->n,
+          code, o->n, (unsigned)got.number);
+    if (output != NULL)
+        memcpy(output, o->bytes, written);
+}
+
+void output_bits_call(uint64_t want, size_t code, size_t words, const uint8_t *message, size_t message_len, size_t odd,
+                      size_t out_len, uint8_t *output)
+{
+    static struct lent m, o;
+    uint8_t with_bits[OUTPUT], without[OUTPUT];
+
+    uint8_t *in = lend(&m, message, message_len), *out = lend(&o, NULL, out_len);
+    worded(luffa_output_bits(code, words, in, message_len, odd, out, out_len), want, words,
+           odd == 0 ? "message" : "message with odd bits", code, &m, &o, with_bits);
+    if (odd == 0) {
+        in = lend(&m, message, message_len);
+        out = lend(&o, NULL, out_len);
+        worded(luffa_output(code, words, in, message_len, out, out_len), want, words, "message", code, &m, &o, without);
+        check(want != LUFFA_DONE || memcmp(with_bits, without, 4 * words) == 0,
+              "two outputs of %zu words of %zu bytes at code %zu", words, message_len, code);
+    }
+    if (want == LUFFA_DONE && output != NULL)
+        memcpy(output, with_bits, 4 * words);
+}
+
+void finish_output_call(uint64_t want, const uint8_t *record, size_t record_len, size_t words, size_t out_len,
+                        uint8_t *output)
+{
+    static struct lent r, o;
+    uint8_t *lent = lend(&r, record, record_len), *out = lend(&o, NULL, out_len);
+
+    struct luffa_output_answer got = luffa_finish_output(lent, record_len, words, out, out_len);
+    worded(got, want, words, "record", record_len > 0 ? record[0] : 0, &r, &o, output);
+}
+
+void hash_finish_output_call(uint64_t want, const struct luffa_hash *hash, size_t words, size_t out_len,
+                             uint8_t *output)
+{
+    static struct lent l, o;
+    uint8_t *lent = lend_aligned(&l, (const uint8_t *)hash, sizeof *hash, sizeof(uint64_t));
+    uint8_t *out = lend(&o, NULL, out_len);
+
+    struct luffa_output_answer got = luffa_hash_finish_output((const struct luffa_hash *)lent, words, out, out_len);
+    worded(got, want, words, "struct", hash->code, &l, &o, output);
+}
+
+void blank_rounds(uint8_t *record, size_t words, uint8_t *output)
+{
+    static const uint8_t blank[32];
+
+    for (size_t i = 0; i < 4 * words; i++) {
+        if (i % 32 == 0)
+            feed_call(LUFFA_DONE, record, LUFFA_RECORD_BYTES, blank, sizeof blank);
+        output[i] = 0;
+        for (size_t j = 0; j < state_bytes[record[0]]; j += 32)
+            output[i] ^= record[STATE + j + i % 32];
+    }
+}
+
+void by_hand(size_t code, const uint8_t *message, size_t bits, size_t words, uint8_t *output)
+{
+    uint8_t record[LUFFA_RECORD_BYTES], padded[96] = {0};
+
+    for (size_t i = 0; i < bits; i++)
+        padded[i / 8] |= message[i / 8] & (0x80 >> i % 8);
+    padded[bits / 8] |= 0x80 >> bits % 8;
+    start_call(LUFFA_DONE, code, sizeof record, record);
+    feed_call(LUFFA_DONE, record, sizeof record, padded, 32 * (bits / 256 + 1));
+    blank_rounds(record, words, output);
 }
 
 /* ---- Sheets. */

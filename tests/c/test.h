@@ -20,12 +20,20 @@ void fill(uint8_t *bytes, size_t n);
 /* By code: bytes of the digest, and of the state words that the code uses. */
 extern const size_t digest_bytes[5], state_bytes[5];
 
+/* Codes that aren't 1 to 4, among them such as are once they are cut to 8, 16 or 32 bits. */
+extern const size_t no_code[18];
+
 /* Where the record's fields begin (Q-7 in document 02). */
 enum { STATE = 8, PENDING = 168, COUNT = 200 };
 
 /* The most odd bits, and numbers that are over it, some of them not once they are cut. */
 enum { MOST_ODD = 7 };
 extern const size_t no_odd[10];
+
+/* The most words of output and their bytes, and numbers of words that are 0 or over it: some are few once they
+   are cut, and some need few bytes once the product is. */
+enum { MOST_WORDS = LUFFA_WORDS_MOST, OUTPUT = 4 * MOST_WORDS };
+extern const size_t no_words[20];
 
 /* A count has more bits than C's own numbers. */
 __extension__ typedef unsigned __int128 bytes_fed;
@@ -43,6 +51,9 @@ uint8_t odd_byte(uint8_t byte, size_t odd);
 /* A well-formed record of this count and these odd bits, with any state words and any pending bits. */
 void any_odd_record(uint8_t *record, size_t code, bytes_fed count, size_t odd);
 void any_record(uint8_t *record, size_t code, bytes_fed count);
+
+/* What a record holds, as a struct. */
+struct luffa_hash in_struct(const uint8_t *record);
 
 /* The calls. `want` is the number that must be answered. Where there are no odd bits, the library's call
    with `_bits` in its name is made and the other too, and both must leave the same. */
@@ -71,6 +82,22 @@ void hash_start_call(uint32_t want, size_t code, struct luffa_hash *hash);
 void hash_feed_bits_call(uint32_t want, struct luffa_hash *hash, const uint8_t *piece, size_t piece_len, size_t odd);
 void hash_feed_call(uint32_t want, struct luffa_hash *hash, const uint8_t *piece, size_t piece_len);
 void hash_finish_call(uint32_t want, const struct luffa_hash *hash, size_t out_len, uint8_t *digest);
+
+/* The calls for so many words of output. Where done, the rounds must be the words by eight, rounded up, and
+   `output` gets the words; it may be null. Refused, the rounds must be 0. */
+void output_bits_call(uint64_t want, size_t code, size_t words, const uint8_t *message, size_t message_len, size_t odd,
+                      size_t out_len, uint8_t *output);
+void finish_output_call(uint64_t want, const uint8_t *record, size_t record_len, size_t words, size_t out_len,
+                        uint8_t *output);
+void hash_finish_output_call(uint64_t want, const struct luffa_hash *hash, size_t words, size_t out_len,
+                             uint8_t *output);
+
+/* The source's 3.3 and 5 by hand, from a record of whole blocks whose last is the padding's: for each eight
+   words a block of zeros is fed, after which the blocks of the state are added up. */
+void blank_rounds(uint8_t *record, size_t words, uint8_t *output);
+
+/* Its 3.1 by hand too, of a message of less than 96 bytes: the bits, a 1 and zeros are fed as whole blocks. */
+void by_hand(size_t code, const uint8_t *message, size_t bits, size_t words, uint8_t *output);
 
 /* ---- Sheets. */
 

@@ -92,6 +92,51 @@ static void brine(uint8_t *sheets)
     munmap(spare, bytes);
 }
 
+/* So many words were written to the beginning of the mapped bytes, and nothing after them; they are cleared. */
+static void written(struct luffa_output_answer got, uint8_t *mapped, const uint8_t *output, size_t words,
+                    const char *call, size_t code)
+{
+    check(got.number == LUFFA_DONE && got.rounds == (words + 7) / 8 && holds(mapped, output, 4 * words),
+          "%s of %zu words into a wide buffer at code %zu", call, words, code);
+    memset(mapped, 0, 4 * words);
+}
+
+/* Words in a wide buffer; and a wide number of words, though there is room for them, or a wide record. */
+static void outputs(uint8_t *mapped, uint8_t *vast, size_t code)
+{
+    uint8_t record[LUFFA_RECORD_BYTES], output[OUTPUT], of_record[OUTPUT];
+    size_t room = 4 * WIDE + 65536;
+
+    any_record(record, code, 40);
+    struct luffa_hash hash = in_struct(record);
+    output_bits_call(LUFFA_DONE, code, MOST_WORDS, record, sizeof record, 0, OUTPUT, output);
+    finish_output_call(LUFFA_DONE, record, sizeof record, MOST_WORDS, OUTPUT, of_record);
+    for (size_t words = 1; words <= MOST_WORDS; words += 21) {
+        written(luffa_output(code, words, record, sizeof record, mapped, WIDE), mapped, output, words, "output", code);
+        written(luffa_output_bits(code, words, record, sizeof record, 0, mapped, WIDE + 3), mapped, output, words,
+                "output of bits", code);
+        written(luffa_finish_output(record, sizeof record, words, mapped, WIDE), mapped, of_record, words,
+                "finish", code);
+        written(luffa_hash_finish_output(&hash, words, mapped, WIDE + 3), mapped, of_record, words,
+                "finish of a struct", code);
+        check(luffa_output(code, WIDE + words, record, sizeof record, vast, room).number == LUFFA_WORDS &&
+                  luffa_output_bits(code, WIDE + words, record, 9, 3, vast, room).number == LUFFA_WORDS &&
+                  luffa_finish_output(record, sizeof record, WIDE + words, vast, room).number == LUFFA_WORDS &&
+                  luffa_hash_finish_output(&hash, WIDE + words, vast, room).number == LUFFA_WORDS,
+              "2^32 + %zu words at code %zu", words, code);
+        memcpy(mapped, record, sizeof record);
+        check(luffa_finish_output(mapped, WIDE + LUFFA_RECORD_BYTES, words, vast, WIDE).number == LUFFA_RECORD,
+              "%zu words of a wide record at code %zu", words, code);
+        memset(mapped, 0, sizeof record);
+        /* Nor is a message of 2^32 bytes read before it is refused. */
+        check(luffa_output(code, 0, mapped, WIDE, vast, WIDE).number == LUFFA_WORDS &&
+                  luffa_output(code, words, mapped, WIDE, vast, 4 * words - 1).number == LUFFA_OUT &&
+                  luffa_output_bits(code, words, mapped, WIDE, WIDE + 1, vast, 4 * words).number == LUFFA_ODD,
+              "%zu words of a wide message at code %zu", words, code);
+    }
+    check(holds(mapped, record, 0) && holds(vast, record, 0), "words at code %zu refused, and something written", code);
+}
+
 int main(void)
 {
     uint8_t record[LUFFA_RECORD_BYTES], digest[LUFFA_512_BYTES];
@@ -136,6 +181,7 @@ int main(void)
                       "feed of a wide piece at code %zu with room for %zu bytes", code, left);
         }
 
+        outputs(mapped, (uint8_t *)marks, code);
         sheets(mapped, marks, out, code);
     }
     return 0;
