@@ -25,7 +25,8 @@ mod tests;
 pub enum Error {
     /// 1: the code isn't 1 to 4. [`Code::from_number`](crate::Code::from_number) alone gives it.
     Width,
-    /// 2: the output buffer is shorter than the digest. Never met.
+    /// 2: the output buffer is shorter than the digest, which is never met, or longer output was asked
+    /// for and its last word isn't whole.
     Out,
     /// 3: the hash record isn't well formed, or is of another code or length.
     Record,
@@ -48,6 +49,8 @@ pub enum Error {
         /// The rounds of Luffa in which that was found out.
         rounds: u64,
     },
+    /// 12: longer output of no word, or of more than 64, was asked for.
+    Words,
     /// 13: a batch of more than 64 sheets.
     Batch,
     /// 17: more than 7 odd bits, odd bits without a byte that has them, or a record whose message has
@@ -73,6 +76,7 @@ impl Error {
             Error::Size => 9,
             Error::Claim => 10,
             Error::Stale { .. } => 11,
+            Error::Words => 12,
             Error::Batch => 13,
             Error::Odd => 17,
             Error::List => 25,
@@ -96,6 +100,7 @@ impl Error {
             Error::Size,
             Error::Claim,
             Error::Stale { rounds },
+            Error::Words,
             Error::Batch,
             Error::Odd,
             Error::List,
@@ -112,7 +117,7 @@ impl fmt::Display for Error {
     fn fmt(&self, f: &mut fmt::Formatter) -> fmt::Result {
         f.write_str(match self {
             Error::Width => "the code isn't 1 to 4",
-            Error::Out => "the output buffer is shorter than the digest",
+            Error::Out => "the output is shorter than the digest, or its last word isn't whole",
             Error::Record => "this isn't a well-formed hash record of this code",
             Error::Long => "the message would have too many bits for the code",
             Error::Sheet => "a sheet is at most 1,024 whole records of 40 bytes",
@@ -122,6 +127,7 @@ impl fmt::Display for Error {
             Error::Size => "the new record isn't 40 bytes",
             Error::Claim => "the claimed digest has another length",
             Error::Stale { .. } => "the sheet isn't the one whose digest is claimed",
+            Error::Words => "no word is asked for, or more than 64",
             Error::Batch => "a batch is at most 64 sheets",
             Error::Odd => "no message has these odd bits, or it has ended with odd bits already",
             Error::List => "a list has fewer places than the batch has records",

@@ -9,6 +9,13 @@
 
 use crate::Error;
 
+/// struct luffa_output_answer.
+#[repr(C)]
+pub struct OutputAnswer {
+    pub number: u64,
+    pub rounds: u64,
+}
+
 /// struct luffa_sheet_answer.
 #[repr(C)]
 pub struct Answer {
@@ -53,6 +60,23 @@ unsafe extern "C" {
         out: *mut u8,
         out_len: usize,
     ) -> u32;
+    fn luffa_output(
+        code: usize,
+        words: usize,
+        message: *const u8,
+        message_len: usize,
+        out: *mut u8,
+        out_len: usize,
+    ) -> OutputAnswer;
+    fn luffa_output_bits(
+        code: usize,
+        words: usize,
+        message: *const u8,
+        message_len: usize,
+        odd: usize,
+        out: *mut u8,
+        out_len: usize,
+    ) -> OutputAnswer;
     fn luffa_start(code: usize, record: *mut u8, record_len: usize) -> u32;
     fn luffa_feed(record: *mut u8, record_len: usize, piece: *const u8, piece_len: usize) -> u32;
     fn luffa_feed_bits(
@@ -63,6 +87,13 @@ unsafe extern "C" {
         odd: usize,
     ) -> u32;
     fn luffa_finish(record: *const u8, record_len: usize, out: *mut u8, out_len: usize) -> u32;
+    fn luffa_finish_output(
+        record: *const u8,
+        record_len: usize,
+        words: usize,
+        out: *mut u8,
+        out_len: usize,
+    ) -> OutputAnswer;
     fn luffa_sheet_build(
         code: usize,
         sheet: *const u8,
@@ -158,6 +189,41 @@ pub fn digest_bits(code: usize, message: &[u8], odd: usize, out: &mut [u8]) -> R
     Error::judge(number.into(), 0)
 }
 
+pub fn output(code: usize, words: usize, message: &[u8], out: &mut [u8]) -> OutputAnswer {
+    // SAFETY: as in `digest`; the library judges `words`.
+    unsafe {
+        luffa_output(
+            code,
+            words,
+            message.as_ptr(),
+            message.len(),
+            out.as_mut_ptr(),
+            out.len(),
+        )
+    }
+}
+
+pub fn output_bits(
+    code: usize,
+    words: usize,
+    message: &[u8],
+    odd: usize,
+    out: &mut [u8],
+) -> OutputAnswer {
+    // SAFETY: as in `digest`; the library judges `words` and `odd`.
+    unsafe {
+        luffa_output_bits(
+            code,
+            words,
+            message.as_ptr(),
+            message.len(),
+            odd,
+            out.as_mut_ptr(),
+            out.len(),
+        )
+    }
+}
+
 pub fn start(code: usize, record: &mut [u8]) -> Result<(), Error> {
     // SAFETY: `record` is written within its length, and is the one buffer lent.
     let number = unsafe { luffa_start(code, record.as_mut_ptr(), record.len()) };
@@ -192,6 +258,19 @@ pub fn finish(record: &[u8], out: &mut [u8]) -> Result<(), Error> {
     // SAFETY: `record` is read and `out` is written within their lengths; they are distinct borrows.
     let number = unsafe { luffa_finish(record.as_ptr(), record_len, out.as_mut_ptr(), out_len) };
     Error::judge(number.into(), 0)
+}
+
+pub fn finish_output(record: &[u8], words: usize, out: &mut [u8]) -> OutputAnswer {
+    // SAFETY: as in `finish`; the library judges `words`.
+    unsafe {
+        luffa_finish_output(
+            record.as_ptr(),
+            record.len(),
+            words,
+            out.as_mut_ptr(),
+            out.len(),
+        )
+    }
 }
 
 /// A sheet as it is lent to a save: its code, its records and marks with the room behind them, and the

@@ -1,12 +1,17 @@
 //! The four hashes, each over the 216-byte record of the message fed so far. Messages that stop inside a
-//! byte are in bits.rs.
+//! byte are in bits.rs, and longer output is in output.rs.
 
 use crate::{Code, Error, ffi};
 use std::{fmt, io};
 
 mod bits;
 #[cfg(test)]
+mod by_hand;
+mod output;
+#[cfg(test)]
 mod tests;
+
+pub use output::OUTPUT_BYTES_MOST;
 
 /// The bytes of a kept hash record.
 pub const RECORD_BYTES: usize = 216;

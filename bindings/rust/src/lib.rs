@@ -24,6 +24,19 @@
 //! # Ok::<(), Error>(())
 //! ```
 //!
+//! Longer output, of which the digest is the beginning, fills a slice of up to 64 words; see
+//! [`Luffa256::finalize_output`]:
+//!
+//! ```
+//! use luffa::{Error, Luffa256};
+//!
+//! // Four key labels of 16 bytes.
+//! let mut labels = [[0; 16]; 4];
+//! Luffa256::output("a pairing", labels.as_flattened_mut())?;
+//! assert!(labels.as_flattened().starts_with(&Luffa256::digest("a pairing")));
+//! # Ok::<(), Error>(())
+//! ```
+//!
 //! A [`Sheet`] takes a change only with the digest of the sheet that was seen:
 //!
 //! ```
@@ -63,7 +76,7 @@ mod sheet;
 pub use code::Code;
 pub use digest::{Digest, ParseDigestError};
 pub use error::Error;
-pub use hash::{Luffa224, Luffa256, Luffa384, Luffa512, RECORD_BYTES};
+pub use hash::{Luffa224, Luffa256, Luffa384, Luffa512, OUTPUT_BYTES_MOST, RECORD_BYTES};
 pub use sheet::{Saved, Sheet};
 
 /// The example in the README runs too.

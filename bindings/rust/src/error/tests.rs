@@ -1,5 +1,6 @@
-//! The refusals: luffa.h's numbers, document 01's each met from the library itself. Those that a brine
-//! statement alone gives are met in plan/brine/refusals.rs.
+//! The refusals: luffa.h's numbers, document 01's each met from the library itself. Those of longer output
+//! are met in hash/output/tests.rs too, and those that a brine statement alone gives in
+//! plan/brine/refusals.rs.
 
 use super::Error;
 use crate::ffi::{self, Lent};
@@ -9,7 +10,7 @@ use crate::{Code, Digest, Luffa256, Sheet};
 fn numbers_and_sentences() {
     assert_eq!(Error::judge(0, 0), Ok(()));
     let mut sentences = Vec::new();
-    for number in (1..=11).chain([13, 17, 25]) {
+    for number in (1..=13).chain([17, 25]) {
         let error = Error::judge(number, 5).unwrap_err();
         assert_eq!(u64::from(error.number()), number);
         let source: &dyn std::error::Error = &error;
@@ -18,13 +19,13 @@ fn numbers_and_sentences() {
     assert_eq!(Error::judge(11, 5), Err(Error::Stale { rounds: 5 }));
     sentences.sort();
     sentences.dedup();
-    assert_eq!(sentences.len(), 14);
+    assert_eq!(sentences.len(), 15);
 }
 
 #[test]
-#[should_panic(expected = "libluffa.a answered 12")]
+#[should_panic(expected = "libluffa.a answered 14")]
 fn an_unknown_number() {
-    let _ = Error::judge(12, 0);
+    let _ = Error::judge(14, 0);
 }
 
 /// What the public calls can meet.
@@ -44,6 +45,9 @@ fn met_by_callers() {
     assert_eq!(hash.try_update("a"), Err(Error::Long));
     assert_eq!(hash.finalize_bits("abc", 8), Err(Error::Odd));
     assert_eq!(Digest::of_bits(code, "", 1), Err(Error::Odd));
+    let mut out = [0; 260];
+    assert_eq!(Luffa256::output("", &mut out), Err(Error::Words));
+    assert_eq!(Luffa256::output("", &mut out[..10]), Err(Error::Out));
     let over = Sheet::from_records(code, &[[0; 40]; 1025]);
     assert_eq!(over.err(), Some(Error::Sheet));
 

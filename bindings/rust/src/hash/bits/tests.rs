@@ -1,23 +1,13 @@
 //! Messages that stop inside a byte: digests against those of blocks that are padded by hand, every cut,
 //! kept records, refusals, and the limit in bits.
 
-use crate::hash::tests::{COUNT, PENDING, STATE};
+use crate::hash::by_hand;
+use crate::hash::tests::{COUNT, PENDING};
 use crate::random::Numbers;
 use crate::{Code, Digest, Error};
 
 /// Lengths around the end of a block; the last byte is the odd one.
 const LENGTHS: [usize; 9] = [1, 2, 31, 32, 33, 63, 64, 65, 100];
-
-/// The source's 3.1: the bits of the bytes, of the last one `odd`, a bit 1, zeros to whole blocks.
-fn padded(message: &[u8], odd: usize) -> Vec<u8> {
-    let of = |byte: &u8| (0..8).rev().map(|k| byte >> k & 1).collect::<Vec<_>>();
-    let mut bits: Vec<u8> = message.iter().flat_map(of).collect();
-    bits.truncate(8 * (message.len() - 1) + odd);
-    bits.push(1);
-    bits.resize(bits.len().next_multiple_of(256), 0);
-    let byte = |bits: &[u8]| bits.iter().fold(0, |byte, bit| byte << 1 | bit);
-    bits.chunks(8).map(byte).collect()
-}
 
 macro_rules! tests_of {
     ($module:ident, $name:ident) => {
@@ -25,39 +15,14 @@ macro_rules! tests_of {
             use super::*;
             type Hash = crate::$name;
 
-            /// The digest by whole blocks alone. The source's 3.3: a zero block before each eight words,
-            /// which are the sum of the state's blocks.
-            fn by_hand(message: &[u8], odd: usize) -> [u8; Hash::BYTES] {
-                let mut hash = Hash::new().chain_update(padded(message, odd));
-                let mut out = [0; Hash::BYTES];
-                for words in out.chunks_mut(32) {
-                    hash.update([0; 32]);
-                    for block in hash.to_record()[STATE..PENDING].chunks(32) {
-                        words
-                            .iter_mut()
-                            .zip(block)
-                            .for_each(|(to, from)| *to ^= from);
-                    }
-                }
-                out
-            }
-
             #[test]
             fn every_odd_bit() {
-                let mut numbers = Numbers(Hash::BYTES as u64);
-                for n in 1..=70 {
-                    for odd in 1..8 {
-                        // The low bits of the last byte are as random as the others.
-                        let message = numbers.bytes(n);
-                        let got = Hash::digest_bits(&message, odd).unwrap();
-                        assert_eq!(
-                            got,
-                            by_hand(&message, odd),
-                            "{n} bytes, the last of {odd} bits"
-                        );
-                        let value = Digest::of_bits(Code::$name, &message, odd);
-                        assert_eq!(value, Ok(Digest::from(got)));
-                    }
+                for (message, odd) in by_hand::odd_messages() {
+                    let got = Hash::digest_bits(&message, odd).unwrap();
+                    let expected = by_hand::output(Code::$name, &message, odd);
+                    assert_eq!(got, expected, "{message:02x?}, the last of {odd} bits");
+                    let value = Digest::of_bits(Code::$name, &message, odd);
+                    assert_eq!(value, Ok(Digest::from(got)));
                 }
             }
 
