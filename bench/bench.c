@@ -1,6 +1,6 @@
 /* Cycles per byte of the archive and of portable.c over the same messages in one run, of feeding against the one-call digest, and of the
-   sheet calls against hashing the whole sheet, with the bars; then the other parts: bits.c has messages that stop inside a byte, plans.c what a
-   sheet means, stack.c the stack of each call. It measures nothing before all have given the same digests and the calls on sound sheets were right; --check leaves out the clock. */
+   sheet calls against hashing the whole sheet, with the bars; then the other parts: bits.c has messages that stop inside a byte, output.c longer
+   output, plans.c what a sheet means, stack.c the stack of each call. It measures nothing before all have given the same digests and the calls on sound sheets were right; --check leaves out the clock. */
 #include "bench.h"
 #include "portable.h"
 
@@ -51,7 +51,7 @@ static int appendix_c(work *run)
 
     for (size_t code = 1; code <= CODES; code++) {
         struct job job = job_of(code, (const uint8_t *)"abc", 3);
-        char hex[2 * MOST_DIGEST_BYTES + 1];
+        char hex[2 * OUT_BYTES + 1];
         uint32_t answer = run(&job);
         for (size_t i = 0; i < sizeof job.out; i++)
             sprintf(hex + 2 * i, "%02x", job.out[i]);
@@ -279,13 +279,14 @@ int main(int argc, char **argv)
     }
     fill(message, LONGEST);
 
-    if (!check(message) || !check_bits(message) || !check_sheets(message) || !check_plans())
+    if (!check(message) || !check_bits(message) || !check_outputs(message) || !check_sheets(message) || !check_plans())
         return 1;
     if (!only_check) {
         digests(message);
         feeding(message);
         short_pieces(message);
         bits(message);
+        outputs(message);
         sheets(message);
         plans();
     }

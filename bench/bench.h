@@ -39,6 +39,11 @@ int same(const char *way, work *a, work *b, const struct job *job);
 int check_bits(const uint8_t *message);
 void bits(const uint8_t *message);
 
+/* -- Longer output (output.c) -- */
+
+int check_outputs(const uint8_t *message);
+void outputs(const uint8_t *message);
+
 /* -- What sheets mean (plans.c) -- */
 
 enum { PLANS_COUNT = 2, SIZES_MOST = 4 };

@@ -10,24 +10,8 @@ static uint32_t portable_c_digest_bits(struct job *job)
     return portable_digest_bits(job->code, job->message, job->len, job->odd, job->out, sizeof job->out);
 }
 
-/* Half of the message is fed whole, so that the odd byte comes to a record that holds something. */
-static uint32_t fed_bits(struct job *job)
-{
-    size_t half = job->len / 2;
-    uint32_t answer = luffa_feed(job->record, sizeof job->record, job->message, half);
-
-    answer |= luffa_feed_bits(job->record, sizeof job->record, job->message + half, job->len - half, job->odd);
-    return answer | archive_finish(job);
-}
-
-static uint32_t lent_bits(struct job *job)
-{
-    size_t half = job->len / 2;
-    uint32_t answer = luffa_hash_feed(&job->hash, job->message, half);
-
-    answer |= luffa_hash_feed_bits(&job->hash, job->message + half, job->len - half, job->odd);
-    return answer | archive_hash_finish(job);
-}
+static uint32_t fed_bits(struct job *job) { return feed_halves(job) | archive_finish(job); }
+static uint32_t lent_bits(struct job *job) { return hash_feed_halves(job) | archive_hash_finish(job); }
 
 /* Every length to 100 has the odd byte at every place of a block; the message's bits after the odd ones are any. */
 int check_bits(const uint8_t *message)

@@ -53,7 +53,7 @@ static struct side side_of(const char *file)
 /* Both answer 0 and leave the same in the whole output buffer. */
 static int same(size_t w, size_t code)
 {
-    uint8_t out[2][MOST_DIGEST_BYTES];
+    uint8_t out[2][OUT_BYTES];
     uint32_t answers = DONE;
 
     for (unsigned s = OLD; s <= NEW; s++) {

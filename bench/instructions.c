@@ -10,7 +10,7 @@ enum { SHORT = 64 };
 
 int main(int argc, char **argv)
 {
-    static uint8_t message[LONGEST], out[MOST_DIGEST_BYTES];
+    static uint8_t message[LONGEST], out[OUT_BYTES];
     static _Alignas(64) uint8_t room[ROOM_BYTES];
     const struct measured *all = works();
 

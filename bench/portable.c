@@ -240,16 +240,16 @@ static void rounds(size_t w, uint32_t h[MOST_BLOCKS][8], const uint8_t *x, size_
     }
 }
 
-uint32_t portable_digest_bits(size_t code, const uint8_t *message, size_t message_len, size_t odd, uint8_t *out, size_t out_len)
+uint32_t portable_output_bits(size_t code, size_t words, const uint8_t *message, size_t message_len, size_t odd, uint8_t *out, size_t out_len)
 {
-    static const size_t WIDTH[] = {0, 3, 3, 4, 5}, DIGEST_WORDS[] = {0, 7, 8, 12, 16};
+    static const size_t WIDTH[] = {0, 3, 3, 4, 5};
     uint32_t h[MOST_BLOCKS][8];
     uint8_t block[BLOCK_BYTES] = {0};
     size_t bytes = message_len - (odd > 0), whole = bytes / BLOCK_BYTES, rest = bytes % BLOCK_BYTES;
 
     if (code < 1 || code > 4)
         return 1;
-    size_t w = WIDTH[code], words = DIGEST_WORDS[code];
+    size_t w = WIDTH[code];
     if (out_len < 4 * words)
         return 2;
 
@@ -264,7 +264,7 @@ uint32_t portable_digest_bits(size_t code, const uint8_t *message, size_t messag
     block[rest] |= (uint8_t)(0x80 >> odd);
     rounds(w, h, block, 1);
 
-    /* 3.3: a round with a zero block goes before each Z_i. */
+    /* 3.3 and 5: a round with a zero block goes before each Z_i. */
     memset(block, 0, sizeof block);
     for (size_t i = 0; i < words; i++) {
         uint32_t z = 0;
@@ -275,6 +275,13 @@ uint32_t portable_digest_bits(size_t code, const uint8_t *message, size_t messag
         store(out + 4 * i, z);
     }
     return 0;
+}
+
+uint32_t portable_digest_bits(size_t code, const uint8_t *message, size_t message_len, size_t odd, uint8_t *out, size_t out_len)
+{
+    static const size_t DIGEST_WORDS[] = {0, 7, 8, 12, 16};
+
+    return code < 1 || code > 4 ? 1 : portable_output_bits(code, DIGEST_WORDS[code], message, message_len, odd, out, out_len);
 }
 
 uint32_t portable_digest(size_t code, const uint8_t *message, size_t message_len, uint8_t *out, size_t out_len)

@@ -1,6 +1,6 @@
 /* The stack of each call. */
 #include "bench.h"
-#include "bits.h"
+#include "output.h"
 #include "wells.h"
 
 #include <stdio.h>
@@ -70,12 +70,12 @@ static size_t own_stack(work *run, const struct job *job) { return most_touched(
 
 static int stack_line(const char *name, size_t most, size_t bar)
 {
-    printf("%-20s %6zu   at most %zu: %s\n", name, most, bar, verdict((double)most, (double)bar));
+    printf("%-24s %6zu   at most %zu: %s\n", name, most, bar, verdict((double)most, (double)bar));
     return most <= bar;
 }
 
 /* The most stack of each call over codes, lengths and bytes held in the record; of the sheet calls, over codes and numbers of records. A record
-   to finish has odd bits, one to feed can't. */
+   to finish has odd bits, one to feed can't. Longer output is of all words. */
 int stacks(const uint8_t *message)
 {
     static const struct {
@@ -85,14 +85,18 @@ int stacks(const uint8_t *message)
     } CALLS[] = {
         {"luffa_digest", archive_digest, 0},
         {"luffa_digest_bits", archive_digest_bits, 0},
+        {"luffa_output", archive_output, 0},
+        {"luffa_output_bits", archive_output_bits, 0},
         {"luffa_start", archive_start, 0},
         {"luffa_feed", archive_feed, 0},
         {"luffa_feed_bits", archive_feed_bits, 0},
         {"luffa_finish", archive_finish, 1},
+        {"luffa_finish_output", archive_finish_output, 1},
         {"luffa_hash_start", archive_hash_start, 0},
         {"luffa_hash_feed", archive_hash_feed, 0},
         {"luffa_hash_feed_bits", archive_hash_feed_bits, 0},
         {"luffa_hash_finish", archive_hash_finish, 1},
+        {"luffa_hash_finish_output", archive_hash_finish_output, 1},
     }, SHEET_CALLS[] = {
         {"luffa_sheet_build", archive_build, 0},
         {"luffa_sheet_change", archive_change_middle, 0},
@@ -118,6 +122,7 @@ int stacks(const uint8_t *message)
                     job.len = LENGTHS[n];
                     /* Without a byte there are none. */
                     job.odd = job.len > 0 ? 3 : 0;
+                    job.words = LUFFA_WORDS_MOST;
                     if (CALLS[i].of_ended) {
                         archive_feed_bits(&job);
                         archive_hash_feed_bits(&job);

@@ -13,14 +13,14 @@ enum { SHEET_RECORD = LUFFA_SHEET_RECORD_BYTES, SHEET_MOST = LUFFA_SHEET_MOST, M
 
 static const size_t DIGEST_BYTES[CODES + 1] = {0, LUFFA_224_BYTES, LUFFA_256_BYTES, LUFFA_384_BYTES, LUFFA_512_BYTES};
 
-/* What a measured thing is given: a code, a message with its odd bits, room for the digest, a record and a struct in its place, both once more
-   as they were started, and the bytes of a short piece; for a sheet call, the sheet whose records are the message; for a call on what sheets
-   mean, the batch whose wells are. */
+/* What a measured thing is given: a code, a message with its odd bits, room for the output, a record and a struct in its place, both once more
+   as they were started, the bytes of a short piece, and the words of longer output; for a sheet call, the sheet whose records are the message;
+   for a call on what sheets mean, the batch whose wells are. */
 struct job {
     size_t code;
     const uint8_t *message;
-    size_t len, odd, piece;
-    uint8_t out[MOST_DIGEST_BYTES];
+    size_t len, odd, piece, words;
+    uint8_t out[OUT_BYTES];
     uint8_t record[LUFFA_RECORD_BYTES], started_record[LUFFA_RECORD_BYTES];
     struct luffa_hash hash, started_hash;
     struct sheet *sheet;

@@ -59,7 +59,7 @@ struct job *prepared(const struct measured *m, size_t code, const uint8_t *messa
     return &own->job;
 }
 
-uint32_t outcome(const struct measured *m, struct job *job, uint8_t out[MOST_DIGEST_BYTES])
+uint32_t outcome(const struct measured *m, struct job *job, uint8_t out[OUT_BYTES])
 {
     uint32_t answer;
 

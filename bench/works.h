@@ -10,6 +10,9 @@
 
 enum { CODES = 4, MOST_DIGEST_BYTES = 64, LONGEST = 1 << 20, FILL = 0xa5, DONE = 0 };
 
+/* The room of an output: a digest's, the 256 bytes of the longest, and some after them that must stay. */
+enum { OUT_BYTES = 320 };
+
 /* The room that a side makes its job in: both get the same, so that neither has the better place. */
 enum { ROOM_BYTES = 1 << 17 };
 
@@ -31,7 +34,7 @@ struct measured {
    output buffer. */
 typedef const struct measured *measured_works(void);
 typedef struct job *measured_job(const struct measured *m, size_t code, const uint8_t *message, void *room);
-typedef uint32_t measured_outcome(const struct measured *m, struct job *job, uint8_t out[MOST_DIGEST_BYTES]);
+typedef uint32_t measured_outcome(const struct measured *m, struct job *job, uint8_t out[OUT_BYTES]);
 measured_works works;
 measured_job prepared;
 measured_outcome outcome;
