@@ -107,12 +107,8 @@ pub fn end(w: Width, s: State, rest: &[u8], closing: u8, words: usize, out: &mut
         state: s,
         rounds: 0,
     };
-    let d = rounds::last::absorb_last(w, c, rest, closing);
-    let t = d.state;
-    let e = Counted {
-        state: t,
-        rounds: 0,
-    };
-    let f = squeeze(w, e, words, out);
-    f.rounds
+    let mut d = rounds::last::absorb_last(w, c, rest, closing);
+    d.rounds = 0;
+    let e = squeeze(w, d, words, out);
+    e.rounds
 }

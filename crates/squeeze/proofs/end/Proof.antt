@@ -20,7 +20,7 @@ use Rattle.squeeze.proofs.end.Tie as tie
 returns : tie.Need-returns
 returns c =
     let q = c .before .before in
-    let l = q .before .before .before in
+    let l = q .before .before in
     let s = l .before .before .before in
     let a = s .args in
     let out = now (a .out) in
