@@ -1,6 +1,6 @@
 // Everything that C can call, and nothing else: thin exports, each with the contract of the function that it calls. include/luffa.h declares
-// them; a slice is a pointer and then a length. The three over a lent struct copy it out, have the answer worked out by value, and store the
-// struct that the answer holds; they are what a program in Rattle calls too.
+// them; a slice is a pointer and then a length. Those over a lent struct copy it out, have the answer worked out by value, and where they
+// alter it store what the answer holds; they are what a program in Rattle calls too.
 ghost use mathlib.Core.Path.{_≡_};
 ghost use Rattle.hash_definition.specs.Calls.{digestBitsOutcome, digestOutcome, startOutcome, feedBitsOutcome, feedOutcome, finishOutcome};
 ghost use Rattle.hash_definition.specs.Lent.{lentStartOutcome, lentFeedBitsOutcome, lentFeedOutcome, lentFinishOutcome};

@@ -4,7 +4,7 @@
 use mathlib.Core.Path.{_≡_, sym, ap, _∙_}
 use mathlib.Core.Bool.{false}
 use mathlib.Core.List.{List, [], _∷_}
-use Prim.Native.Nat.{ℕ, _*_, _≤_}
+use Prim.Native.Nat.{ℕ, _*_, _/_, _≤_, min}
 use native.Mathlib.Omega.{arith}
 use denote.Ref.{now}
 use borrow.Author.Needs.{needs}
@@ -12,7 +12,8 @@ use borrow.Author.Tests.{ltb-false}
 use lib.ListN.{length, take}
 use lib.Seq.{length-take-le}
 use Rattle.definition.specs.Buffer.{overwrite}
-use Rattle.definition.specs.Final.{finalRounds}
+use Rattle.definition.specs.Word.{bytesOfAll}
+use Rattle.definition.specs.Final.{final, finalRounds}
 use Rattle.definition.specs.Refusal.{Refusal, OUT, ODD, pick, firstOf, conditionOf, outRefusal, whenDone}
 use Rattle.definition.proofs.Refusals.{in-turn, fails, second-done}
 use Rattle.hash_definition.specs.Calls.{oddRefusal, longRefusal}
@@ -77,9 +78,10 @@ returns-2 c =
     let a = start (i .before) .args in
     let out = now (a .out) in
     let m = all-words (a .words) out (room i) in
-    -- what is put out are the words of the state after the padded message
+    -- what is put out are the words asked for of the state after the padded message
+    let z : _ ≡ overwrite (bytesOfAll (final (w .width .result) (min (a .words) (length out / 4)) _)) out = q .end .ensures .1 in
     let d =
-    (rw (m, w .width .ensures) at (q .end .ensures .1))
+    (rw (m, w .width .ensures) at z)
     ∙ ap (λ (p : List ℕ). overwrite p out)
     (whole-message (a .code) (a .words) (now (a .message)) (a .odd) (h .whole .result) (o .closing .result) _ (rw (w .width .ensures) at (s .start .ensures)) (ends i) (h .whole .ensures)
     (o .closing .ensures (ends i .0) (ends i .1) (h .whole .ensures))) in

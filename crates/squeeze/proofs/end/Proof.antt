@@ -10,6 +10,7 @@ use lib.ListN.{length}
 use Rattle.definition.specs.declared.Block.{Block}
 use Rattle.definition.specs.declared.Counted.{Counted}
 use Rattle.definition.specs.Word.{bytesOfAll}
+use Rattle.definition.specs.State.{blocksIn}
 use Rattle.definition.specs.Final.{final}
 use Rattle.definition.specs.Buffer.{overwrite}
 use Rattle.definition.proofs.Chain.{counted-blocks}
@@ -24,9 +25,11 @@ returns c =
     let s = l .before .before .before in
     let a = s .args in
     let out = now (a .out) in
-    let n : ℕ = min (a .words) (length out / 4) in (
+    let n : ℕ = min (a .words) (length out / 4) in
+    -- what is put out are the words of the state after the padded end
+    let z : _ ≡ overwrite (bytesOfAll (final (a .w) n (blocksIn (a .w) (l .absorb-last .result .state)))) out = q .squeeze .ensures .1 in (
       ap (λ (x : Counted). x .rounds) (q .squeeze .ensures .0) ∙ final-counted (a .w) _ n (omega arith),
-      (rw (l .absorb-last .ensures) at (q .squeeze .ensures .1))
+      (rw (l .absorb-last .ensures) at z)
           ∙ ap (λ (h : List Block). overwrite (bytesOfAll (final (a .w) n h)) out) (counted-blocks (a .w) _ _),
     )
 
