@@ -2,14 +2,13 @@
 -- output of 7, 8, 12 and 16 words, and the blank rounds are the words divided by eight, rounded up, as the count that travels with them says.
 -- Assumes nothing.
 use mathlib.Core.Path.{_≡_, refl, sym, ap, _∙_}
-use mathlib.Core.List.{List, [], _∷_, _++_, append-assoc}
+use mathlib.Core.List.{List, _++_, append-assoc}
 use Prim.Native.Nat.{ℕ, zero, suc, _+_, _-_, _*_, _^_, _<_, _≤_}
 use native.Mathlib.Nat.{zero-add, suc-add, mod-eq-of-lt}
 use native.Mathlib.Omega.{arith}
 use lib.ListN.{length, take, replicate, length-replicate}
 use lib.Seq.{take-take, take-append-le}
 use Rattle.definition.specs.declared.Block.{Block}
-use Rattle.definition.specs.declared.Counted.{Counted}
 use Rattle.definition.specs.declared.State.{State}
 use Rattle.definition.specs.declared.Width.{Width}
 use Rattle.definition.specs.Word.{bytesOfAll}

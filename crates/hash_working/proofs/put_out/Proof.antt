@@ -3,7 +3,7 @@
 -- Assumes nothing.
 use mathlib.Core.Path.{_≡_, sym, ap, _∙_}
 use mathlib.Core.List.{List, [], _∷_}
-use Prim.Native.Nat.{ℕ, _*_, _%_, _≤_, _<_, _^_}
+use Prim.Native.Nat.{ℕ, _*_, _%_, _≤_}
 use native.Mathlib.Omega.{arith}
 use denote.Ref.{now}
 use borrow.Author.Needs.{needs}
@@ -11,18 +11,16 @@ use borrow.Author.Tests.{ltb-false, not-false}
 use lib.ListN.{length, getD, take}
 use lib.Seq.{length-take-le}
 use Rattle.hash_definition.specs.declared.Kept.{Kept}
-use Rattle.definition.specs.Word.{bytesOfAll}
 use Rattle.definition.specs.Round.{chain}
 use Rattle.definition.specs.Width.{widthAt}
 use Rattle.definition.specs.Padding.{closingByte, padded, blocks}
 use Rattle.definition.specs.Buffer.{overwrite}
-use Rattle.definition.specs.Final.{final, finalRounds}
+use Rattle.definition.specs.Final.{finalRounds}
 use Rattle.definition.specs.State.{blocksIn}
 use Rattle.definition.specs.Luffa.{outputOf}
 use Rattle.definition.specs.Refusal.{Refusal, OUT, RECORD, pick, firstOf, conditionOf, outRefusal, whenDone}
 use Rattle.hash_definition.specs.Record.{pendingBytes, outputFrom}
 use Rattle.hash_definition.specs.Lent.{keptRefusal}
-use Rattle.hash_definition.specs.Said.{putOut}
 use Rattle.definition.proofs.Refusals.{in-turn, fails, second-done}
 use Rattle.hash_definition.proofs.Feeding.{well-kept}
 use Rattle.hash_definition.proofs.Ending.{low-pending, output-closed}
