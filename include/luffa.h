@@ -86,8 +86,8 @@ uint32_t luffa_digest_bits(size_t code, const uint8_t *message, size_t message_l
  * is how many, 1 to LUFFA_WORDS_MOST, each four bytes, high byte first; they stand in the first bytes of
  * out, and the bytes after them stay as they were. At one code shorter output is the beginning of longer
  * output, and the digests at codes 1 to 4 are that of 7, 8, 12 and 16 words; codes 1 and 2 have the same
- * words. So whoever has a message's digest has the beginning of its output. The specification points out
- * that a longer output does not improve the security level of a code with a smaller state.
+ * words. So whoever has a message's digest has the beginning of its output. Section 5 points out that "a
+ * longer output with a small w does not improve the security level"; w is 3, 3, 4 and 5 at codes 1 to 4.
  */
 #define LUFFA_WORDS_MOST 64
 
