@@ -19,7 +19,7 @@ use Rattle.sheet_definition.specs.Marks.{Worked, markAt, stateFrom, mark
 use Rattle.sheet_definition.specs.Save.{SheetOutcome, refusedWith, doneWith}
 use Rattle.sheet_definition.specs.SheetCalls.{buildOutcome}
 use Rattle.sheet_definition.specs.Run.{left}
-use Rattle.sheet_definition.specs.Said.{Written, Untouched, Rounds}
+use Rattle.sheet_definition.specs.Said.{Written, Laid, Untouched, Rounds}
 use Rattle.definition.proofs.Buffer.{length-overwriteAt, drop-overwriteAt}
 use Rattle.definition.proofs.Chain.{length-start}
 use Rattle.sheet_definition.proofs.Sheet.{build-from-start}
@@ -141,6 +141,19 @@ module _ (code : ℕ) (sheet : List ℕ) (n : ℕ) (marks out : List ℕ) where
             out-size = length-overwriteAt 0 (work .digest) out (omega (arith, length-digest code n 0 sheet withFirst, f .out-room));
             marks-behind = λ m h. a .behind m h ∙ drop-overwriteAt 0 (markWords * (m + 1)) first marks (omega (arith, length-mark (start (widthAt code)))) (omega arith);
           }
+
+  -- so an accepted build lays the marks
+  pub build-laid : outcome .answer .number ≡ 0 → Laid (left code outcome)
+  unfolding left
+  build-laid e =
+      let f = build-fits e in
+      record {
+        known-code = f .known-code;
+        count = omega (arith, f .count, build-stays .count-same);
+        sheet-room = omega (arith, f .sheet-room, build-stays .count-same, ap length (build-stays .sheet-same));
+        marks-room = omega (arith, f .marks-room, ap q (build-stays .count-same), build-stays .marks-size);
+        written = build-made e .written;
+      }
 
   pub build-rounds : Rounds (outcome .answer) (buildRounds code n) 0
   unfolding refusedWith doneWith

@@ -12,13 +12,12 @@ use Rattle.definition.specs.Refusal.{firstOf}
 use Rattle.sheet_definition.specs.Sheet.{World, q}
 use Rattle.sheet_definition.specs.Marks.{held}
 use Rattle.sheet_definition.specs.Save.{refusedWith, doneWith}
-use Rattle.sheet_definition.specs.SheetCalls.{buildOutcome, Call, saveOf, call}
+use Rattle.sheet_definition.specs.SheetCalls.{Call, saveOf, call}
 use Rattle.sheet_definition.specs.Run.{left, next, run, applied, records, cut}
-use Rattle.sheet_definition.specs.Said.{Stands, Stays, After}
+use Rattle.sheet_definition.specs.Said.{Stands, Laid, Stays, After}
 use Rattle.sheet_definition.proofs.Outcomes.{accepted, by-answer, given, refused-untouched}
-use Rattle.sheet_definition.proofs.Saves.{Made, save-rounds, save-stays, save-marks, past-stays, save-made, save-built, save-freed, save-accepted, save-stale}
+use Rattle.sheet_definition.proofs.Saves.{Made, save-rounds, save-stays, save-marks, past-stays, built-true, save-made, save-built, save-freed, save-accepted, save-stale}
 use Rattle.sheet_definition.proofs.Edits.{proper, listed}
-use Rattle.sheet_definition.proofs.Build.{build-fits, build-made, BuildStays, build-stays}
 use Rattle.sheet_definition.proofs.Joined.{length-cut, forty-cut, joined-cut}
 
 -- a call leaves a world that stands for the list that it leaves
@@ -47,22 +46,37 @@ stands-next w c rs s =
           marks-room = omega (arith, f .new-marks-room, d .marks-size);
         }
 
--- an accepted build leaves a world that stands for the sheet cut into records
-pub stands-built : (code : ℕ) (sheet : List ℕ) (n : ℕ) (marks out : List ℕ) → buildOutcome code sheet n marks out .answer .number ≡ 0
-    → Stands (left code (buildOutcome code sheet n marks out)) (cut n sheet)
-unfolding left held
-stands-built code sheet n marks out e =
-    let f = build-fits code sheet n marks out e in
-    let k : BuildStays code sheet n marks out (buildOutcome code sheet n marks out) = build-stays code sheet n marks out in
+-- where the marks are laid the world stands for the sheet cut into records
+pub stands-laid : (w : World) → Laid w → Stands w (cut (w .n) (w .sheet))
+unfolding held
+stands-laid w l =
     record {
-      sized = forty-cut n sheet (f .sheet-room);
-      counted = length-cut n sheet ∙ sym (k .count-same);
-      holds = rw (k .count-same, k .sheet-same, joined-cut n sheet);
-      marks-true = build-made code sheet n marks out e .marks-true;
-      count = omega (arith, f .count, k .count-same);
-      sheet-room = omega (arith, f .sheet-room, k .count-same, ap length (k .sheet-same));
-      marks-room = omega (arith, f .marks-room, ap q (k .count-same), k .marks-size);
+      sized = forty-cut (w .n) (w .sheet) (l .sheet-room);
+      counted = length-cut (w .n) (w .sheet);
+      holds = sym (joined-cut (w .n) (w .sheet));
+      marks-true = built-true w (l .written);
+      count = l .count;
+      sheet-room = l .sheet-room;
+      marks-room = l .marks-room;
     }
+
+-- and after every call, whatever its answer, they are laid
+pub laid-next : (w : World) (c : Call) → Laid w → Laid (next w c)
+unfolding next left call
+laid-next w c l =
+    let s = stands-next w c (cut (w .n) (w .sheet)) (stands-laid w l) in
+    record {
+      known-code = l .known-code;
+      count = s .count;
+      sheet-room = s .sheet-room;
+      marks-room = s .marks-room;
+      written = save-built w (saveOf w c) (proper w c) (l .written);
+    }
+
+pub laid-run : (w : World) → Laid w → (cs : List Call) → Laid (run w cs)
+unfolding run
+laid-run w l [] = l
+laid-run w l (c ∷ cs) = laid-run (next w c) (laid-next w c l) cs
 
 -- what one call does
 pub after : (w : World) (c : Call) (rs : List (List ℕ)) → Stands w rs → After w c rs
@@ -92,9 +106,6 @@ unfolding run records
 demand3 w rs s [] c = after w c rs s
 demand3 w rs s (d ∷ cs) c = demand3 (next w d) (applied (call w d .answer .number) rs d) (stands-next w d rs s) cs c
 
--- and so from an accepted build on, with the sheet's own records
-pub demand3-built : (code : ℕ) (sheet : List ℕ) (n : ℕ) (marks out : List ℕ) → buildOutcome code sheet n marks out .answer .number ≡ 0
-    → (cs : List Call) (c : Call)
-    → After (run (left code (buildOutcome code sheet n marks out)) cs) c (records (left code (buildOutcome code sheet n marks out)) (cut n sheet) cs)
-demand3-built code sheet n marks out e =
-    demand3 (left code (buildOutcome code sheet n marks out)) (cut n sheet) (stands-built code sheet n marks out e)
+-- and so where the marks are laid, with the sheet's own records
+pub demand3-laid : (w : World) → Laid w → (cs : List Call) (c : Call) → After (run w cs) c (records w (cut (w .n) (w .sheet)) cs)
+demand3-laid w l = demand3 w (cut (w .n) (w .sheet)) (stands-laid w l)

@@ -14,12 +14,12 @@ use Rattle.sheet_definition.specs.Sheet.{World}
 use Rattle.sheet_definition.specs.SheetCalls.{buildOutcome, Call, saveOf, call, changing}
 use Rattle.sheet_definition.specs.SheetCalls.Kind.{Append, Drop}
 use Rattle.sheet_definition.specs.Run.{left, next, run, listAfter, applied, cut}
-use Rattle.sheet_definition.specs.Said.{Stale, Stands, Written, Restored}
+use Rattle.sheet_definition.specs.Said.{Stale, Stands, Laid, Restored}
 use Rattle.sheet_definition.proofs.Computed.{everything}
 use Rattle.sheet_definition.proofs.Writes.{same-refl}
 use Rattle.sheet_definition.proofs.Outcomes.{accepted}
-use Rattle.sheet_definition.proofs.Demand3.{stands-built, stands-next, after}
-use Rattle.sheet_definition.proofs.Rebuilt.{run-as-built}
+use Rattle.sheet_definition.proofs.Build.{build-laid}
+use Rattle.sheet_definition.proofs.Demand3.{stands-laid, stands-next, laid-run, after}
 use Rattle.sheet_definition.proofs.Claims.{accepted-is, change-same, change-back, two-saves, old-claim}
 
 -- room for two records, their mark and a digest of 256 bits; records that differ
@@ -38,14 +38,17 @@ built-sheet = ones ++ replicate 40 0
 abbrev pub opened : World
 opened = left 2 (buildOutcome 2 built-sheet 1 (replicate 40 0) blank)
 
--- the build is accepted, so the world stands for one record: demand3-built, run-as-built
+-- the build is accepted, so its marks are laid and the world stands for one record: build-laid, demand3-laid
 pub built : buildOutcome 2 built-sheet 1 (replicate 40 0) blank .answer .number ≡ 0
 unfolding everything
 built = refl
 
+pub laid : Laid opened
+laid = build-laid 2 built-sheet 1 (replicate 40 0) blank built
+
 pub stands : Stands opened (ones ∷ [])
-unfolding cut
-stands = stands-built 2 built-sheet 1 (replicate 40 0) blank built
+unfolding everything cut
+stands = stands-laid opened laid
 
 -- two plans, and the digest of the sheet that both planners opened
 abbrev pub one : Call
@@ -135,9 +138,9 @@ pub same-record : call opened (changing 0 (take 40 (drop (40 * 0) (opened .sheet
 unfolding everything
 same-record = change-same opened 0 (luffa 2 ones) blank (stands .marks-true) refl (zero-lt-suc 0) refl .0
 
--- the marks after such a run are those of a build: run-as-built
-pub as-built : Written (run opened (one ∷ back ∷ last ∷ [])) 0
-as-built = run-as-built 2 built-sheet 1 (replicate 40 0) blank built (one ∷ back ∷ last ∷ [])
+-- the marks after such a run are those of a build: laid-run
+pub as-built : Laid (run opened (one ∷ back ∷ last ∷ []))
+as-built = laid-run opened laid (one ∷ back ∷ last ∷ [])
 
 -- a fourth record appended to three, which fills a group, and dropped again: append-mark, append-others, drop-bytes, drop-mark
 abbrev pub zeros : List ℕ
@@ -151,8 +154,8 @@ unfolding everything
 three-built = refl
 
 three-stands : Stands three (zeros ∷ zeros ∷ zeros ∷ [])
-unfolding cut
-three-stands = stands-built 2 (replicate 160 0) 3 (replicate 80 0) blank three-built
+unfolding everything cut
+three-stands = stands-laid three (build-laid 2 (replicate 160 0) 3 (replicate 80 0) blank three-built)
 
 abbrev pub fourth : Call
 fourth = record { kind = Append ones; claim = luffa 2 (joined (zeros ∷ zeros ∷ zeros ∷ [])); out = blank }

@@ -1,29 +1,17 @@
--- After any run from built marks, the marks of the sheet are, word for word, those that a build of the sheet would leave.
+-- Marks that are equal one by one are equal as words; so marks that are laid are, word for word, those that a build of the sheet would leave.
 -- Assumes nothing.
 use mathlib.Core.Path.{_≡_, refl, sym, ap₂, _∙_}
-use mathlib.Core.List.{List, [], _∷_, _++_}
+use mathlib.Core.List.{List, _++_}
 use Prim.Native.Nat.{ℕ, zero, suc, _+_, _*_, _<_}
 use native.Mathlib.Omega.{arith}
-use lib.ListN.{take}
+use lib.ListN.{take, drop, take-append-drop}
 use lib.Seq.{take-add}
 use Rattle.sheet_definition.specs.Sheet.{World, markWords, q}
 use Rattle.sheet_definition.specs.Marks.{markAt}
-use Rattle.sheet_definition.specs.SheetCalls.{buildOutcome, Call, saveOf, call}
-use Rattle.sheet_definition.specs.Run.{left, next, run}
+use Rattle.sheet_definition.specs.SheetCalls.{buildOutcome}
+use Rattle.sheet_definition.specs.Run.{left}
 use Rattle.sheet_definition.specs.Said.{Written}
-use Rattle.sheet_definition.proofs.Saves.{save-built}
-use Rattle.sheet_definition.proofs.Edits.{proper}
 use Rattle.sheet_definition.proofs.Build.{build-made, build-stays}
-
--- every call keeps marks that are as a build writes them, whatever its answer
-pub marks-as-built : (w : World) → Written w 0 → (cs : List Call) → Written (run w cs) 0
-unfolding run next call
-marks-as-built w b [] = b
-marks-as-built w b (c ∷ cs) = marks-as-built (next w c) (save-built w (saveOf w c) (proper w c) b) cs
-
-pub run-as-built : (code : ℕ) (sheet : List ℕ) (n : ℕ) (marks out : List ℕ) → buildOutcome code sheet n marks out .answer .number ≡ 0
-    → (cs : List Call) → Written (run (left code (buildOutcome code sheet n marks out)) cs) 0
-run-as-built code sheet n marks out e = marks-as-built (left code (buildOutcome code sheet n marks out)) (build-made code sheet n marks out e .written)
 
 -- words that agree at each mark
 marks-equal : (k : ℕ) (l' l : List ℕ) → ((m : ℕ) → m < k → markAt l' m ≡ markAt l m) → take (markWords * k) l' ≡ take (markWords * k) l
@@ -33,6 +21,11 @@ marks-equal (suc k) l' l h =
     let e : markWords * suc k ≡ markWords * k + markWords = omega arith in
     rw (e, take-add (markWords * k) markWords l', take-add (markWords * k) markWords l)
     (ap₂ _++_ (marks-equal k l' l (λ m i. h m (omega arith))) (h k (omega arith)))
+
+-- and with the words behind them
+pub marks-same : (k : ℕ) (l' l : List ℕ) → ((m : ℕ) → m < k → markAt l' m ≡ markAt l m) → drop (markWords * k) l' ≡ drop (markWords * k) l → l' ≡ l
+marks-same k l' l h d =
+    sym (take-append-drop (markWords * k) l') ∙ ap₂ _++_ (marks-equal k l' l h) d ∙ take-append-drop (markWords * k) l
 
 -- so such marks are the words that any accepted build of the sheet leaves in front of its buffer
 pub same-as-build : (w : World) → Written w 0 → (marks out : List ℕ) → buildOutcome (w .code) (w .sheet) (w .n) marks out .answer .number ≡ 0

@@ -3,12 +3,13 @@
 use mathlib.Core.Path.{_≡_}
 use mathlib.Core.Logic.{_↔_}
 use Prim.Native.Nat.{ℕ, suc, _+_, _*_, _<_, _≤_}
+use mathlib.Core.Bool.{true}
 use mathlib.Core.List.{List}
 use lib.ListN.{length, take, drop, replicate}
 use Rattle.sheet_definition.specs.declared.Answer.{Answer}
 use Rattle.definition.specs.Luffa.{luffa}
 use Rattle.definition.specs.Buffer.{Every, overwrite, joined}
-use Rattle.definition.specs.Refusal.{First, STALE, firstOf}
+use Rattle.definition.specs.Refusal.{First, STALE, firstOf, known}
 use Rattle.sheet_definition.specs.Sheet.{World, most, recordBytes, markWords, q, checkRounds}
 use Rattle.sheet_definition.specs.Marks.{held, markAt, markOf, stateAfter, TrueMarks}
 use Rattle.sheet_definition.specs.Save.{SheetOutcome, Edit, saveRounds}
@@ -36,6 +37,14 @@ pub record Stands (w : World) (rs : List (List ℕ)) : Type 0 where
 -- the marks from a number on, as they are written: "a written mark has them zero", the words of unused blocks
 abbrev pub Written : World → (m : ℕ) → Type 0
 Written w m = (k : ℕ) → m ≤ k → k ≤ q (w .n) → markAt (w .marks) k ≡ markOf (stateAfter (w .code) (w .sheet) k)
+
+-- a sheet whose marks are laid, so that saves may begin: at a known code, with room for both, each mark is the true state as it is written
+pub record Laid (w : World) : Type 0 where
+  pub known-code : known (w .code) ≡ true
+  pub count : w .n ≤ most
+  pub sheet-room : recordBytes * w .n ≤ length (w .sheet)
+  pub marks-room : markWords * (q (w .n) + 1) ≤ length (w .marks)
+  pub written : Written w 0
 
 -- "A refusal writes nothing, returns the count it was given"
 pub record Untouched (w : World) (out : List ℕ) (o : SheetOutcome) : Type 0 where

@@ -17,7 +17,7 @@ pub fn records(n: usize, sheet: usize) -> u32
 }
 
 // 6: whether there is room for the marks of n records.
-fn marks_room(n: usize, marks: usize) -> u32
+pub fn marks_room(n: usize, marks: usize) -> u32
     ensures { λ r. ⌜ r ≡ firstOf (marksRefusal n marks ∷ []) ⌝ }
 {
     refusals::when(marks / MARK <= n / 4, refusals::MARKS)

@@ -11,9 +11,8 @@ ghost use Rattle.sheet_definition.specs.Marks.{worked};
 ghost use Rattle.sheet_definition.specs.Save.{checked, staleClaim};
 ghost use Rattle.sheet_work.specs.Admission.{admission};
 use definition::Counted;
-
-// The bytes of a group: four records, five message blocks.
-const GROUP: usize = 160;
+use sheet_definition::GROUP;
+use sheet_definition::RECORD;
 
 // From mark m as found to the end of n records: the marks after m are written on the way, and the digest into the front of out. The count
 // goes on from the rounds that were run before.
@@ -46,7 +45,7 @@ pub fn work_on(
         sheet_marks::write(marks, k, c.state);
     }
     let at = GROUP * last;
-    let end = sheet_definition::RECORD * n;
+    let end = RECORD * n;
     let d = rounds::last::absorb_last(w, c, &sheet[at..end], rounds::last::CLOSING);
     let e = squeeze::squeeze(w, d, codes::words(code), out);
     e.rounds
