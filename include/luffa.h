@@ -241,8 +241,8 @@ struct luffa_output_answer luffa_hash_finish_output(const struct luffa_hash *has
  * Marks spare a save the hashing of the whole sheet. Four records are five blocks of the message;
  * mark m is the state after the first 4m records, 40 words from marks[40 * m] on. A sheet of n
  * records has marks 0 to n / 4. Codes 1 and 2 use the first 24 words of a mark and code 3 the first
- * 32; the others are written as zero and never read. Words are the machine's own: to carry marks to
- * another machine, build them there.
+ * 32; the others are written as zero, and no call but luffa_sheet_mend reads them. Words are the
+ * machine's own: to carry marks to another machine, build them there.
  *
  * The caller keeps the code, the records, their number n and the marks, and lends them to each call.
  * The buffers may be larger than n needs: what lies behind is neither read nor written, but for the
@@ -250,15 +250,15 @@ struct luffa_output_answer luffa_hash_finish_output(const struct luffa_hash *has
  *
  * A save goes like this:
  *   - Open: build, unless marks and digest were kept with the sheet, and hold the digest beside what
- *     the planner sees.
+ *     the planner sees. Marks that were kept where they may have been spoiled are mended first.
  *   - Save: change, append or drop with that digest as the claim. Where done, sheet and marks are
  *     the new ones, the answer has the new n, and the digest in out is the claim of the next save.
  *   - 11 LUFFA_STALE: somebody else has saved since. Nothing was written: open again and look.
  * A claim speaks of content: a sheet that was changed and changed back has its old digest again.
  *
- * The duty that no call can judge: marks are those that build wrote for this sheet at this code, or
- * that the saves since have left. A call takes the words as it finds them, and answers what follows
- * from them; only from true marks is that the digest of the sheet. In doubt, build.
+ * The duty that no save can judge: marks are those that build or mend wrote for this sheet at this
+ * code, or that the saves since have left. A save takes the words as it finds them, and answers what
+ * follows from them; only from true marks is that the digest of the sheet. In doubt, mend.
  */
 #define LUFFA_SHEET_MOST 1024
 #define LUFFA_SHEET_RECORD_BYTES 40
@@ -284,6 +284,26 @@ struct luffa_sheet_answer {
  */
 struct luffa_sheet_answer luffa_sheet_build(size_t code, const uint8_t *sheet, size_t sheet_len, size_t n,
                                             uint32_t *marks, size_t marks_len, uint8_t *out, size_t out_len);
+
+/* number is the answer, and where refused the rest is 0. Where done, wrong is the number of marks that
+   weren't true and were written, first the lowest of them, and rounds are the rounds of Luffa that were
+   run, five for each four records. Where wrong is 0, first is 0; mark 0 can be the first too. */
+struct luffa_mend_answer {
+    uint64_t number, wrong, first, rounds;
+};
+
+/*
+ * Mends the marks of a sheet that a disk gave back: works through the sheet from its beginning, writes
+ * each mark of it that isn't true, and says which was the first and how many there were. All 40 words
+ * are compared, so a word set in an unused block makes a mark wrong. Afterwards the marks are those that
+ * luffa_sheet_build would leave, and a save may follow. Nothing else is written, and where none was wrong
+ * nothing at all. It can't tell whether the records are those that were saved: for this compare the digest.
+ *   1 LUFFA_WIDTH   code isn't 1 to 4
+ *   5 LUFFA_SHEET   n is over LUFFA_SHEET_MOST, or sheet_len is less than 40n
+ *   6 LUFFA_MARKS   marks_len is less than LUFFA_MARKS_FOR(n)
+ */
+struct luffa_mend_answer luffa_sheet_mend(size_t code, const uint8_t *sheet, size_t sheet_len, size_t n,
+                                          uint32_t *marks, size_t marks_len);
 
 /*
  * Puts a record in the place of the one at `place`, counted from 0, rewrites the marks after it, and

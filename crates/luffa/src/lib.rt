@@ -6,11 +6,13 @@ ghost use Rattle.hash_definition.specs.Calls.{digestBitsOutcome, digestOutcome,
 ghost use Rattle.hash_definition.specs.Lent.{lentStartOutcome, lentFeedBitsOutcome, lentFeedOutcome, lentFinishOutcome};
 ghost use Rattle.hash_definition.specs.Output.{outputBitsOutcome, outputOutcome, finishOutputOutcome, lentFinishOutputOutcome};
 ghost use Rattle.sheet_definition.specs.SheetCalls.{buildOutcome, changeOutcome, appendOutcome, dropOutcome};
+ghost use Rattle.mend_definition.specs.Mend.{mendOutcome, mendAnswer};
 ghost use Rattle.plan_definition.specs.Check.{verdict, answerOf};
 ghost use Rattle.brine_definition.specs.Statement.{brineOutcome};
 use brine_definition::Statement;
 use hash_definition::Kept;
 use hash_definition::OutputAnswer;
+use mend_definition::MendAnswer;
 use plan_definition::ContentAnswer;
 use sheet_definition::Answer;
 
@@ -218,6 +220,20 @@ pub extern "C" fn luffa_sheet_drop(
     ensures { λ r. ⌜ record { answer = r; sheet = now (sheet .exit); marks = now (marks .exit); out = now (out .exit) } ≡ dropOutcome code (now (sheet .entry)) n (now (marks .entry)) (now (claim .entry)) (now (out .entry)) ⌝ }
 {
     sheet::drop(code, sheet, n, marks, claim, out)
+}
+
+// The marks of a sheet, those that are wrong replaced.
+#[no_mangle]
+pub extern "C" fn luffa_sheet_mend(
+    code: usize,
+    sheet: &[u8],
+    n: usize,
+    marks: &mut [u32],
+) -> MendAnswer
+    ensures { λ r. ⌜ r ≡ mendAnswer (mendOutcome code (now (sheet .entry)) n (now (marks .entry)) .answer) ⌝ }
+    ensures { λ r. ⌜ now (marks .exit) ≡ mendOutcome code (now (sheet .entry)) n (now (marks .entry)) .marks ⌝ }
+{
+    mend::answer(mend::mend(code, sheet, n, marks))
 }
 
 // Whether the records of a sheet make sense, in this paper's numbers.

@@ -35,7 +35,7 @@ padded-append n last y x e =
     rw m (append-assoc y x _)
 
 -- whole blocks of a string, and then blocks of what follows them
-chain-parts : (w : Width) (h : List Block) (k n : ℕ) (x : List ℕ) → groupBytes * k ≤ length x
+pub chain-parts : (w : Width) (h : List Block) (k n : ℕ) (x : List ℕ) → groupBytes * k ≤ length x
     → chain w (chain w h (blocks (take (groupBytes * k) x))) (blocks (take n (drop (groupBytes * k) x))) ≡ chain w h (blocks (take (groupBytes * k + n) x))
 chain-parts w h k n x l =
     let e : length (take (groupBytes * k) x) ≡ 5 * k * 32 = length-take-le (groupBytes * k) x l ∙ omega arith in
@@ -56,7 +56,7 @@ digest-from-mark code n m sheet marks t h l =
     rw (digest-bytes code _ x, luffa-bytes code (take (recordBytes * n) sheet), t, b, chain-append)
 
 -- the number of blocks of a padded string
-length-blocksTo : (n : ℕ) (x : List ℕ) → length (blocksTo n x) ≡ n
+pub length-blocksTo : (n : ℕ) (x : List ℕ) → length (blocksTo n x) ≡ n
 unfolding blocksTo
 length-blocksTo zero x = refl
 length-blocksTo (suc n) x = ap suc (length-blocksTo n (drop 32 x))

@@ -1,0 +1,3 @@
+-- Laws that the code of mending stands on.
+pub mod Compared
+pub mod Upto
