@@ -3,6 +3,7 @@
 //! and output_calls.rs.
 
 use crate::brine_model::{self, Batch, BrineAnswer};
+use crate::mend_model::{MendAnswer, Mending};
 use crate::plan_model::{self, ContentAnswer};
 use crate::sheet_model::{self, Answer, Call, Given};
 use std::fmt::{Debug, Write};
@@ -18,6 +19,14 @@ extern "C" {
         out: *mut u8,
         out_len: usize,
     ) -> Answer;
+    fn luffa_sheet_mend(
+        code: usize,
+        sheet: *const u8,
+        sheet_len: usize,
+        n: usize,
+        marks: *mut u32,
+        marks_len: usize,
+    ) -> MendAnswer;
     fn luffa_sheet_change(
         code: usize,
         sheet: *mut u8,
@@ -214,6 +223,24 @@ pub fn sheet(call: Call, given: &mut Given) -> Result<Answer, String> {
             (c, &before.claim),
             (o, &given.out),
         ],
+    )
+}
+
+pub fn mend(given: &mut Mending) -> Result<MendAnswer, String> {
+    let before = given.clone();
+    let want = given.answer();
+    let (mut s, mut m) = (Lent::new(&before.sheet), Lent::words(&before.marks));
+    let (code, n) = (before.code, before.n);
+    let (sheet, sheet_len) = (s.pointer(), before.sheet.len());
+    let (marks, marks_len) = (m.pointer().cast(), before.marks.len());
+    let got = unsafe { luffa_sheet_mend(code, sheet, sheet_len, n, marks, marks_len) };
+    let [held, left] = [&before.marks, &given.marks].map(|words| Lent::words(words));
+    agree(
+        &format!("luffa_sheet_mend at code {code}, n = {n}: buffer 0 the sheet, 1 the marks"),
+        &[&before.sheet, held.inside()],
+        got,
+        want,
+        &[(s, &before.sheet), (m, left.inside())],
     )
 }
 

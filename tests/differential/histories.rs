@@ -1,10 +1,12 @@
 //! Histories of a sheet: built, then saved by two planners whose digests are at times outdated, with
-//! arguments that are at times refused and marks that are at times false. Every call goes through
-//! calls.rs; while the marks are true, the plain sheet of the separately written program is held
-//! beside it.
+//! arguments that are at times refused and marks that are at times false, or spoiled and mended. Every
+//! call goes through calls.rs; while the marks are true, the plain sheet of the separately written program
+//! is held beside it.
 
 use crate::calls;
 use crate::luffa::CODES;
+use crate::mend_model::{MendAnswer, Mending};
+use crate::mends::{self, WAYS};
 use crate::met::{answer_kinds, Met};
 use crate::model::digest_bytes;
 use crate::sheet::{Saved, Sheet, MARK_WORDS, MOST, RECORD_BYTES};
@@ -76,6 +78,9 @@ fn wanted() -> Vec<String> {
         "Append full for the sheet alone",
         "Append full for the marks alone",
         "words of an unused block set",
+        "true marks mended",
+        "false marks mended",
+        "marks spoiled and mended",
     ]
     .map(String::from)
     .into();
@@ -100,6 +105,8 @@ fn wanted() -> Vec<String> {
                 "stale, marks false",
                 "stale, outdated digest",
                 "stale, last byte",
+                "done, marks mended",
+                "stale, marks mended",
             ] {
                 kinds.push(format!("{call:?} {what}"));
             }
@@ -110,7 +117,7 @@ fn wanted() -> Vec<String> {
 }
 
 /// Numbers of records at which each call must be done.
-const EDGES: [usize; 7] = [0, 1, 3, 4, 5, 1023, MOST];
+pub const EDGES: [usize; 7] = [0, 1, 3, 4, 5, 1023, MOST];
 
 /// An unknown code has no digest length; a sheet of no records is never too short; marks too few for
 /// n are too few for n + 1.
@@ -143,16 +150,18 @@ struct History {
     /// The plain sheet, while the marks are true, and its digest.
     plain: Option<Sheet>,
     digest: Vec<u8>,
+    /// Whether the marks are true because they were mended.
+    mended: bool,
     /// The digest that each planner has seen last.
     seen: [Vec<u8>; 2],
 }
 
-fn words_for(n: usize) -> usize {
+pub fn words_for(n: usize) -> usize {
     MARK_WORDS * (n / 4 + 1)
 }
 
 impl Numbers {
-    fn words(&mut self, n: usize) -> Vec<u32> {
+    pub fn words(&mut self, n: usize) -> Vec<u32> {
         (0..n).map(|_| self.next() as u32).collect()
     }
 
@@ -187,6 +196,7 @@ fn any_sheet(numbers: &mut Numbers) -> History {
         marks: numbers.words(marks),
         plain: None,
         digest: vec![],
+        mended: false,
         seen: [numbers.bytes(d), numbers.bytes(d)],
     }
 }
@@ -233,9 +243,15 @@ impl History {
             self.marks[..given.marks.len()].copy_from_slice(&given.marks);
         }
         if call == Call::Build && number == 0 {
-            let records = self.sheet.as_chunks().0[..self.n].to_vec();
-            let code = self.code;
-            self.plain = Some(Sheet { code, records });
+            self.plain = Some(self.mending().plain());
+            self.mended = false;
+        }
+        if self.mended {
+            match number {
+                0 => met.see(format!("{call:?} done, marks mended")),
+                11 => met.see(format!("{call:?} stale, marks mended")),
+                _ => (),
+            }
         }
         if number == 0 || number == 11 || hold == [7] {
             self.plain_agrees(call, &before, &answer, &given.out)?;
@@ -288,6 +304,55 @@ impl History {
                 return Err(format!("{what}: mark {m} isn't the plain sheet's\n"));
             }
         }
+        Ok(())
+    }
+
+    fn mending(&self) -> Mending {
+        Mending {
+            code: self.code,
+            sheet: self.sheet.clone(),
+            n: self.n,
+            marks: self.marks.clone(),
+        }
+    }
+
+    /// Mends the marks, at times spoiled first, and judges this by the plain sheet: only marks that aren't its
+    /// marks are wrong, so true ones are left as they are. From here on saves go on as if nothing had happened.
+    fn mend(&mut self, numbers: &mut Numbers, met: &mut Met) -> Agreed {
+        let mut given = self.mending();
+        let plain = given.plain();
+        let (marks, _) = given.marks[..words_for(self.n)].as_chunks_mut();
+        let spoil = numbers.between(0, 1) == 0;
+        if spoil {
+            let way = numbers.one_of(&WAYS);
+            numbers.spoil_marks(way, &plain, marks);
+        }
+        let truth = plain.marks();
+        let wrong: Vec<usize> = (0..truth.len()).filter(|&m| marks[m] != truth[m]).collect();
+        let want = MendAnswer {
+            number: 0,
+            wrong: wrong.len() as u64,
+            first: wrong.first().map_or(0, |&m| m as u64),
+            rounds: 5 * (self.n / 4) as u64,
+        };
+        let answer = mends::call(&mut given, met)?;
+        let what = format!("a mend at code {}, n = {}", self.code, self.n);
+        if answer != want {
+            return Err(format!("{what}: {answer:?}, the plain sheet {want:?}\n"));
+        }
+        if given.marks[..words_for(self.n)] != *truth.as_flattened() {
+            return Err(format!("{what}: other marks than the plain sheet's\n"));
+        }
+        match (wrong.is_empty(), spoil, self.plain.is_some()) {
+            (true, false, true) => met.see("true marks mended".into()),
+            (false, true, true) => met.see("marks spoiled and mended".into()),
+            (false, false, false) => met.see("false marks mended".into()),
+            _ => (),
+        }
+        self.mended |= !wrong.is_empty();
+        self.marks = given.marks;
+        self.digest = plain.digest();
+        self.plain = Some(plain);
         Ok(())
     }
 
@@ -358,6 +423,7 @@ impl History {
                 let at = some_mark + numbers.between(0, used - 1);
                 self.marks[at] ^= 1 << numbers.between(0, 31);
                 self.plain = None;
+                self.mended = false;
             }
             1 | 2 if used < MARK_WORDS => {
                 let at = some_mark + numbers.between(used, MARK_WORDS - 1);
@@ -365,6 +431,7 @@ impl History {
                 met.see("words of an unused block set".into());
             }
             3 => return self.open(planner, numbers, met),
+            4 => self.mend(numbers, met)?,
             _ => (),
         }
         if self.plain.is_none() && numbers.between(0, 3) == 0 {

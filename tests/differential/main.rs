@@ -1,5 +1,5 @@
 //! The archive against a model of its calls over the separately written program, on random messages,
-//! cuts, records, numbers of words, sheets, plans and batches: differential [SEED [CASES]]. Case k of a
+//! cuts, records, numbers of words, sheets, marks, plans and batches: differential [SEED [CASES]]. Case k of a
 //! seed is case 0 of the seed k higher, so that one that failed is run again alone.
 
 mod brine_kinds;
@@ -10,6 +10,9 @@ mod hash_calls;
 mod hash_kinds;
 mod hashes;
 mod histories;
+mod mend_kinds;
+mod mend_model;
+mod mends;
 mod met;
 mod model;
 mod output_calls;
@@ -28,6 +31,8 @@ mod brine;
 #[path = "../independent/luffa.rs"]
 #[allow(dead_code)]
 mod luffa;
+#[path = "../independent/mend.rs"]
+mod mend;
 #[path = "../independent/output.rs"]
 mod output;
 #[path = "../independent/plan.rs"]
@@ -110,6 +115,9 @@ const CASES: u64 = 8000;
 /// The messages and free records of a case that longer output is asked of.
 const OUTPUTS: usize = 4;
 
+/// The sheets of a case whose marks are mended.
+const MENDS: usize = 2;
+
 /// The plans of a case.
 const PLANS: usize = 6;
 
@@ -128,6 +136,9 @@ fn case(seed: u64, met: &mut Met) -> Agreed {
         outputs::free_record(numbers, met)?;
     }
     histories::history(numbers, met)?;
+    for _ in 0..MENDS {
+        mends::mend(numbers, met)?;
+    }
     for _ in 0..PLANS {
         plans::plan(numbers, met)?;
     }
@@ -157,6 +168,7 @@ fn main() {
         hash_kinds::print(&met),
         output_kinds::print(&met),
         histories::print(&met),
+        mend_kinds::print(&met),
         plan_kinds::print(&met),
         brine_kinds::print(&met),
     ];

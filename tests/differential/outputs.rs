@@ -32,12 +32,15 @@ pub const NO_WORDS: [usize; 20] = [
     usize::MAX,
 ];
 
+/// Codes that there are none of, some of them such as would do once they are cut.
+pub const NO_CODES: [usize; 8] = [0, 5, 6, 255, 256 + 1, (1 << 32) + 4, 1 << 63, usize::MAX];
+
 /// The largest buffer that is lent. It has room for the smaller ones of NO_WORDS.
 const MOST_ROOM: usize = 4 * (256 + MOST_WORDS) + 1;
 
 impl Numbers {
     /// Which of so many refusals shall hold, as bits: half the time none, else one alone or some.
-    fn refusals(&mut self, all: usize) -> usize {
+    pub fn refusals(&mut self, all: usize) -> usize {
         match self.between(0, 3) {
             0 | 1 => 0,
             2 => 1 << self.between(0, all - 1),
@@ -82,7 +85,7 @@ pub fn message(numbers: &mut Numbers, met: &mut Met) -> Agreed {
     let hold = numbers.refusals(4);
     let code = match hold & 1 {
         0 => numbers.code(),
-        _ => numbers.one_of(&[0, 5, 6, 255, 256 + 1, (1 << 32) + 4, 1 << 63, usize::MAX]),
+        _ => numbers.one_of(&NO_CODES),
     };
     let (words, mut out) = numbers.asked(hold & 2 != 0, hold & 4 != 0);
     let n = numbers.length(LONGEST);

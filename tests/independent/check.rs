@@ -6,7 +6,7 @@
 
 use crate::luffa::*;
 use crate::sheet::{Record, Saved, Sheet, MARK_WORDS, MOST};
-use crate::{check_bits, check_brine, check_output, check_plan};
+use crate::{check_bits, check_brine, check_mend, check_output, check_plan};
 use std::fmt::Debug;
 
 /// The hash values of "abc" (Appendix C).
@@ -106,7 +106,7 @@ impl Report {
 pub struct Numbers(u64);
 
 impl Numbers {
-    fn next(&mut self) -> u32 {
+    pub fn next(&mut self) -> u32 {
         self.0 ^= self.0 << 13;
         self.0 ^= self.0 >> 7;
         self.0 ^= self.0 << 17;
@@ -138,6 +138,7 @@ pub fn differences() -> Vec<String> {
     check_output::differences(&mut report, numbers);
     check_plan::differences(&mut report);
     check_brine::differences(&mut report);
+    check_mend::differences(&mut report, numbers);
     report.0
 }
 
@@ -435,11 +436,11 @@ fn final_words(report: &mut Report, numbers: &mut Numbers) {
     }
 }
 
-fn record(numbers: &mut Numbers) -> Record {
+pub fn record(numbers: &mut Numbers) -> Record {
     [(); 40].map(|_| numbers.next() as u8)
 }
 
-fn sheet(numbers: &mut Numbers, code: usize, n: usize) -> Sheet {
+pub fn sheet(numbers: &mut Numbers, code: usize, n: usize) -> Sheet {
     let records = (0..n).map(|_| record(numbers)).collect();
     Sheet { code, records }
 }

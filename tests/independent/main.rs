@@ -1,16 +1,19 @@
 //! A separately written Luffa program, to compare another one with. The hash is in luffa.rs; the
 //! four output lines are those of the digest program in the build requirements, `words` gives the
 //! longer output of document 02, `bits` takes a message that stops inside a byte, `plan` is the check
-//! of a sheet's content, and `brine` the brine statement over a batch of sheets.
+//! of a sheet's content, `brine` the brine statement over a batch of sheets, and `mend` finds the spoiled
+//! marks of a sheet.
 
 mod bits;
 mod brine;
 mod check;
 mod check_bits;
 mod check_brine;
+mod check_mend;
 mod check_output;
 mod check_plan;
 mod luffa;
+mod mend;
 mod output;
 mod plan;
 mod sheet;
@@ -19,7 +22,7 @@ use bits::BitLuffa;
 use luffa::{digest, Luffa, CODES};
 use output::{Asked, Output};
 use plan::Well;
-use sheet::{MOST, RECORD_BYTES};
+use sheet::{Sheet, GROUP, MARK_WORDS, MOST, RECORD_BYTES};
 use std::fs::File;
 use std::io::{self, BufRead, BufReader, BufWriter, ErrorKind, Read, Write};
 use std::os::fd::AsFd;
@@ -33,6 +36,7 @@ usage: independent               four digest lines for standard input
        independent pieces        a digest for each line `CODE HEX` of standard input
        independent plan          whether the records on standard input are a sound sheet
        independent brine COUNT.. the brine statement over sheets of so many records each
+       independent mend CODE N   which marks of a sheet of N records are wrong, and what they should be
        independent check         checks itself against the specification";
 
 /// The house limit on message bytes.
@@ -59,6 +63,10 @@ fn main() -> ExitCode {
         ["brine", ref counts @ ..] => match counts.iter().map(|n| n.parse()).collect() {
             Ok(counts) => brine_page(counts),
             Err(_) => return usage(),
+        },
+        ["mend", code, n] => match (code_of(code.as_bytes()), n.parse()) {
+            (Some(code), Ok(n)) => mend_marks(code, n),
+            _ => return usage(),
         },
         ["check"] => check_all(),
         _ => return usage(),
@@ -278,6 +286,38 @@ fn brine_page(counts: Vec<usize>) -> io::Result<ExitCode> {
     }
     text += &format!("sound {}\nfaulted {}\n", page.sound, page.faulted);
     text += &format!("intake {}\noverloaded {}\n", page.intake, page.overloaded);
+    print(&text)?;
+    Ok(ExitCode::SUCCESS)
+}
+
+/// The words of the marks are read in the machine's own form, in which a caller of the library has them.
+fn mend_marks(code: usize, n: usize) -> io::Result<ExitCode> {
+    let most = RECORD_BYTES * MOST + 4 * MARK_WORDS * (MOST / GROUP + 1);
+    let mut bytes = Vec::new();
+    input()?.take(most as u64).read_to_end(&mut bytes)?;
+    let (records, marks) = bytes.split_at(bytes.len().min(n.saturating_mul(RECORD_BYTES)));
+    let words: Vec<u32> = marks
+        .as_chunks()
+        .0
+        .iter()
+        .map(|&word| u32::from_ne_bytes(word))
+        .collect();
+    if let Some(number) = mend::refusals(code, records.len(), n, words.len()).first() {
+        return failed(&format!("{number}\n"));
+    }
+    let records = records.as_chunks().0.to_vec();
+    let mut marks = words.as_chunks().0[..n / GROUP + 1].to_vec();
+    let mended = mend::mend(&Sheet { code, records }, &mut marks);
+    let mut text = String::new();
+    for &m in &mended.wrong {
+        text += &format!("{m} {}\n", hex(&marks[m]));
+    }
+    let first = mended.wrong.first().map_or("none".into(), usize::to_string);
+    text += &format!(
+        "wrong {}\nfirst {first}\nrounds {}\n",
+        mended.wrong.len(),
+        mended.rounds
+    );
     print(&text)?;
     Ok(ExitCode::SUCCESS)
 }

@@ -29,7 +29,7 @@ impl Asked {
 }
 
 /// The refusals that hold, in the order in which they are given.
-fn holding<const N: usize>(judged: [(u64, bool); N]) -> Vec<u64> {
+pub fn holding<const N: usize>(judged: [(u64, bool); N]) -> Vec<u64> {
     let hold = judged.into_iter().filter(|&(_, holds)| holds);
     hold.map(|(number, _)| number).collect()
 }

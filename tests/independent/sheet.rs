@@ -9,7 +9,7 @@ pub const RECORD_BYTES: usize = 40;
 pub const MARK_WORDS: usize = 40;
 
 /// Records to a group; a mark stands before each group and after the last.
-const GROUP: usize = 4;
+pub const GROUP: usize = 4;
 
 pub type Record = [u8; RECORD_BYTES];
 pub type Mark = [u32; MARK_WORDS];
