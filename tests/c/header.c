@@ -21,6 +21,9 @@ HOLDS(LUFFA_MARKS_FOR(0) == 40 && LUFFA_MARKS_FOR(3) == 40 && LUFFA_MARKS_FOR(4)
 HOLDS(LUFFA_MARKS_FOR(LUFFA_SHEET_MOST) == 10280 && LUFFA_MARKS_FOR(1 + 2) == 40);
 HOLDS(sizeof(struct luffa_sheet_answer) == 24 && offsetof(struct luffa_sheet_answer, number) == 0 &&
       offsetof(struct luffa_sheet_answer, count) == 8 && offsetof(struct luffa_sheet_answer, rounds) == 16);
+HOLDS(sizeof(struct luffa_mend_answer) == 32 && offsetof(struct luffa_mend_answer, number) == 0 &&
+      offsetof(struct luffa_mend_answer, wrong) == 8 && offsetof(struct luffa_mend_answer, first) == 16 &&
+      offsetof(struct luffa_mend_answer, rounds) == 24);
 HOLDS(LUFFA_WELL_NUMBER == 0 && LUFFA_WELL_KIND == 2 && LUFFA_WELL_LINK_COUNT == 3 && LUFFA_WELL_RATE == 4);
 HOLDS(LUFFA_WELL_LINKS == 8 && LUFFA_WELL_NOTE == 24 && LUFFA_LINKS_MOST == 4);
 HOLDS(LUFFA_LINK_INJECTOR(0) == 8 && LUFFA_LINK_SHARE(0) == 10 && LUFFA_LINK_INJECTOR(1 + 2) == 20);
@@ -69,6 +72,8 @@ static answer (*const append)(size_t, uint8_t *, size_t, size_t, uint32_t *, siz
                               const uint8_t *, size_t, uint8_t *, size_t) = luffa_sheet_append;
 static answer (*const drop)(size_t, uint8_t *, size_t, size_t, uint32_t *, size_t, const uint8_t *, size_t, uint8_t *,
                             size_t) = luffa_sheet_drop;
+static struct luffa_mend_answer (*const mend)(size_t, const uint8_t *, size_t, size_t, uint32_t *,
+                                              size_t) = luffa_sheet_mend;
 static struct luffa_content_answer (*const plan_check)(const uint8_t *, size_t, size_t) = luffa_plan_check;
 static struct luffa_brine_answer (*const plan_brine)(const uint8_t *, size_t, const size_t *, size_t, uint64_t *,
                                                      size_t, int64_t *, size_t) = luffa_plan_brine;
@@ -103,6 +108,7 @@ int main(void)
                   claim, sizeof claim).number != LUFFA_PLACE ||
            drop(LUFFA_512, sheet, sizeof sheet, 1, marks, LUFFA_MARKS_FOR(1), out, sizeof out, claim, sizeof claim)
                    .count != 0 ||
+           mend(LUFFA_384, NULL, 0, 0, marks, LUFFA_MARKS_FOR(0)).wrong != 1 ||
            plan_check(sheet, sizeof sheet, 1).rule != LUFFA_RULE_NUMBER ||
            plan_brine(sheet, sizeof sheet, counts, 2, intake, 1, spare, 1).faulted != 1;
 }

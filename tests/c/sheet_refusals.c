@@ -1,5 +1,6 @@
 /* The refusals of the sheet calls: each by itself in every way, and every set of them at once, of
-   which the lowest is given. What is refused changes nothing; sheet_call sees to that. */
+   which the lowest is given. What is refused changes nothing; sheet_call sees to that. The mender's are in
+   mend.c. */
 #include "test.h"
 
 /* The sheet as built, and the one that is spoilt. A refused call leaves the sheet and the marks, so

@@ -110,6 +110,14 @@ static uint8_t *lend_aligned(struct lent *l, const uint8_t *bytes, size_t n, siz
 
 static uint8_t *lend(struct lent *l, const uint8_t *bytes, size_t n) { return lend_aligned(l, bytes, n, 1); }
 
+/* Says what may be done with the pages of n bytes. */
+static void protect(void *from, size_t n, int protection)
+{
+    size_t before = (uintptr_t)from % PAGE;
+
+    check(mprotect((uint8_t *)from - before, before + n, protection) == 0, "no protection");
+}
+
 /* Whether nothing changed but, perhaps, the first `written` bytes. */
 static int kept(const struct lent *l, size_t written)
 {
@@ -661,6 +669,52 @@ struct luffa_sheet_answer sheet_call(uint64_t want, enum call call, struct sheet
               "%s of %zu records at code %zu, place %zu: wrong digest", call_names[call], n, s->code, s->place);
         memcpy(s->claim, in_out.bytes, digest_bytes[s->code]);
     }
+    return got;
+}
+
+/* What mending must leave of the marks, and the answer. Where they are lent, the pages of the wrong ones are made
+   such that they can be written. */
+static struct luffa_mend_answer mended(struct sheet *s, uint32_t *lent)
+{
+    static uint32_t found[COUNT_OF(s->marks)];
+    struct luffa_mend_answer answer = {LUFFA_DONE, 0, 0, 5 * (s->n / 4)};
+
+    memcpy(found, s->marks, sizeof found);
+    true_marks(s, 0, s->marks);
+    for (size_t m = s->n / 4 + 1; m-- > 0;)
+        if (memcmp(found + MARK * m, s->marks + MARK * m, 4 * MARK) != 0) {
+            protect(lent + MARK * m, 4 * MARK, PROT_READ | PROT_WRITE);
+            answer.wrong++;
+            answer.first = m;
+        }
+    return answer;
+}
+
+struct luffa_mend_answer mend_call(uint64_t want, struct sheet *s)
+{
+    static struct lent in_sheet, in_marks;
+    uint8_t *sheet = lend(&in_sheet, s->sheet, s->sheet_len);
+    uint32_t *marks = (void *)lend_aligned(&in_marks, (uint8_t *)s->marks, 4 * s->marks_len, 4);
+    struct luffa_mend_answer wanted = {want, 0, 0, 0};
+
+    if (want == LUFFA_DONE) {
+        protect(in_sheet.room, in_sheet.size, PROT_READ);
+        protect(in_marks.room, in_marks.size, PROT_READ);
+        wanted = mended(s, marks);
+    }
+    struct luffa_mend_answer got = luffa_sheet_mend(s->code, sheet, s->sheet_len, s->n, marks, s->marks_len);
+    protect(in_sheet.room, in_sheet.size, PROT_READ | PROT_WRITE);
+    protect(in_marks.room, in_marks.size, PROT_READ | PROT_WRITE);
+
+    check(memcmp(&got, &wanted, sizeof got) == 0,
+          "mend of %zu records at code %zu: answered %llu, %llu wrong, first %llu, %llu rounds, wanted %llu, %llu, "
+          "%llu, %llu",
+          s->n, s->code, (unsigned long long)got.number, (unsigned long long)got.wrong, (unsigned long long)got.first,
+          (unsigned long long)got.rounds, (unsigned long long)wanted.number, (unsigned long long)wanted.wrong,
+          (unsigned long long)wanted.first, (unsigned long long)wanted.rounds);
+    check(kept(&in_sheet, 0) && left(&in_marks, s->marks),
+          "mend of %zu records at code %zu, answer %u: wrong marks, or a written sheet", s->n, s->code,
+          (unsigned)got.number);
     return got;
 }
 

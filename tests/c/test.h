@@ -135,6 +135,12 @@ extern const size_t final_rounds[5];
    digest. */
 struct luffa_sheet_answer sheet_call(uint64_t want, enum call call, struct sheet *s);
 
+/* Has the marks of a sheet mended, whatever they are. Where done, the answer and the marks are judged by
+   luffa_feed over the whole sheet, and neither the sheet nor a page of the marks that has no wrong one in
+   it can be written; refused, nothing may have changed, and the answer has the number alone. Then `s` is
+   what the call left. */
+struct luffa_mend_answer mend_call(uint64_t want, struct sheet *s);
+
 /* ---- What the records of a sheet mean. */
 
 /* A field of a record and its bytes. */

@@ -32,6 +32,17 @@ static void sheets(uint8_t *sheet, uint32_t *marks, uint8_t *out, size_t code)
     check(luffa_sheet_build(code, sheet, WIDE, WIDE + n, marks, WIDE, out, WIDE).number == LUFFA_SHEET &&
               luffa_sheet_build(code, sheet, WIDE, WIDE, marks, WIDE, out, WIDE).number == LUFFA_SHEET,
           "build of a wide number of records at code %zu", code);
+    marks[0] ^= 1;
+    check(luffa_sheet_mend(WIDE + code, sheet, WIDE, n, marks, WIDE).number == LUFFA_WIDTH &&
+              luffa_sheet_mend(code, sheet, WIDE, WIDE + n, marks, WIDE).number == LUFFA_SHEET &&
+              luffa_sheet_mend(code, sheet, WIDE, WIDE, marks, WIDE).number == LUFFA_SHEET &&
+              marks[0] == (s.marks[0] ^ 1),
+          "mend of a wide number of records at code %zu", code);
+    struct luffa_mend_answer mended = luffa_sheet_mend(code, sheet, WIDE, n, marks, WIDE);
+    check(mended.number == LUFFA_DONE && mended.wrong == 1 && mended.first == 0 && mended.rounds == 5 &&
+              memcmp(marks, s.marks, 4 * s.marks_len) == 0 && marks[s.marks_len] == 0 && marks[WIDE] == 0 &&
+              holds(sheet, s.sheet, RECORD * n),
+          "mend in wide buffers at code %zu", code);
     check(luffa_sheet_change(code, sheet, WIDE, n, marks, WIDE, WIDE, s.record, RECORD, s.claim, d, out, WIDE).number ==
               LUFFA_PLACE,
           "change at a wide place at code %zu", code);
