@@ -1,6 +1,7 @@
 /* Cycles per byte of the archive and of portable.c over the same messages in one run, of feeding against the one-call digest, and of the
    sheet calls against hashing the whole sheet, with the bars; then the other parts: bits.c has messages that stop inside a byte, output.c longer
-   output, plans.c what a sheet means, stack.c the stack of each call. It measures nothing before all have given the same digests and the calls on sound sheets were right; --check leaves out the clock. */
+   output, mend.c the mending of marks, plans.c what a sheet means, stack.c the stack of each call. It measures nothing before all have given the
+   same digests and marks, and the calls on sound sheets were right; --check leaves out the clock. */
 #include "bench.h"
 #include "portable.h"
 
@@ -233,39 +234,48 @@ static void short_pieces(const uint8_t *message)
         }
 }
 
-/* The calls on a full sheet, against the digest of its bytes. */
-static void sheets(const uint8_t *message)
+void race_sheets(const uint8_t *message, const struct raced *calls, size_t count)
 {
     static const struct length LENGTH = {SHEET_RECORD * SHEET_MOST, 1, 1000};
-    static const double BAR_BUILD = 1.10, BAR_LAST = 1.0 / 80;
-    enum { DIGEST, BUILD, LAST, MIDDLE, FIRST, APPEND, DROP };
-    static work *const RUNS[] = {archive_digest,       archive_build,  archive_change_last, archive_change_middle,
-                                 archive_change_first, archive_append, archive_drop};
-    static const char *const NAME[] = {"digest", "build", "change at 1,023", "change at 512", "change at 0", "append at 1,023", "drop at 1,024"};
+    work *runs[RACED_MOST];
 
-    printf("\nSheet of 1,024 records, cycles per call and their ratio to the digest of its bytes, best timing of each, taken in turns\n\n");
-    printf("code   call                cycles     ratio\n");
+    for (size_t k = 0; k < count; k++)
+        runs[k] = calls[k].run;
+    printf("code   call                   cycles     ratio\n");
     for (size_t code = 1; code <= CODES; code++) {
         static struct sheet sheet;
         struct job job = sheet_job(&sheet, code, message, SHEET_MOST);
-        double best[COUNT(RUNS)];
-        for (size_t k = 0; k < COUNT(RUNS); k++)
-            if (RUNS[k](&job) != LUFFA_DONE) {
-                printf("REFUSED: code %zu, %s\n", code, NAME[k]);
+        double best[RACED_MOST];
+        for (size_t k = 0; k < count; k++)
+            if (runs[k](&job) != LUFFA_DONE) {
+                printf("REFUSED: code %zu, %s\n", code, calls[k].name);
                 exit(1);
             }
-        race(RUNS, COUNT(RUNS), &job, &LENGTH, best);
-        for (size_t k = 0; k < COUNT(RUNS); k++) {
-            double ratio = best[k] / best[DIGEST];
-            printf("%4zu   %-15s %10.0f %9.4f", code, NAME[k], best[k] * (double)job.len, ratio);
-            if (k == BUILD)
-                printf("   at most %.2f: %s", BAR_BUILD, verdict(ratio, BAR_BUILD));
-            if (k == LAST && code == LUFFA_512)
-                printf("   at most 1/80: %s", verdict(ratio, BAR_LAST));
+        race(runs, count, &job, &LENGTH, best);
+        for (size_t k = 0; k < count; k++) {
+            double ratio = best[k] / best[0];
+            printf("%4zu   %-18s %10.0f %9.4f", code, calls[k].name, best[k] * (double)job.len, ratio);
+            if (calls[k].most && (calls[k].code == 0 || calls[k].code == code))
+                printf("   at most %s: %s", calls[k].most, verdict(ratio, calls[k].bar));
             printf("\n");
         }
         fflush(stdout);
     }
+}
+
+/* The calls on a full sheet, against the digest of its bytes. */
+static void sheets(const uint8_t *message)
+{
+    static const struct raced CALLS[] = {{"digest", archive_digest, NULL, 0, 0},
+                                         {"build", archive_build, "1.10", 1.10, 0},
+                                         {"change at 1,023", archive_change_last, "1/80", 1.0 / 80, LUFFA_512},
+                                         {"change at 512", archive_change_middle, NULL, 0, 0},
+                                         {"change at 0", archive_change_first, NULL, 0, 0},
+                                         {"append at 1,023", archive_append, NULL, 0, 0},
+                                         {"drop at 1,024", archive_drop, NULL, 0, 0}};
+
+    printf("\nSheet of 1,024 records, cycles per call and their ratio to the digest of its bytes, best timing of each, taken in turns\n\n");
+    race_sheets(message, CALLS, COUNT(CALLS));
 }
 
 int main(int argc, char **argv)
@@ -279,7 +289,7 @@ int main(int argc, char **argv)
     }
     fill(message, LONGEST);
 
-    if (!check(message) || !check_bits(message) || !check_outputs(message) || !check_sheets(message) || !check_plans())
+    if (!check(message) || !check_bits(message) || !check_outputs(message) || !check_sheets(message) || !check_mends(message) || !check_plans())
         return 1;
     if (!only_check) {
         digests(message);
@@ -288,6 +298,7 @@ int main(int argc, char **argv)
         bits(message);
         outputs(message);
         sheets(message);
+        mends(message);
         plans();
     }
     return stacks(message) ? 0 : 1;

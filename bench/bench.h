@@ -31,6 +31,19 @@ static inline void race(work *const *runs, size_t count, struct job *job, const 
 
 static inline const char *verdict(double value, double bar) { return value <= bar ? "ok" : "MISSED"; }
 
+/* A call on a full sheet, and the most that it may take beside the first of its table, in words too: at one code, or at each where that is 0. */
+struct raced {
+    const char *name;
+    work *run;
+    const char *most;
+    double bar;
+    size_t code;
+};
+
+enum { RACED_MOST = 8 };
+
+void race_sheets(const uint8_t *message, const struct raced *calls, size_t count);
+
 /* Whether both give the same, each on a copy of the job; else it is printed, the first as the archive's. */
 int same(const char *way, work *a, work *b, const struct job *job);
 
@@ -43,6 +56,11 @@ void bits(const uint8_t *message);
 
 int check_outputs(const uint8_t *message);
 void outputs(const uint8_t *message);
+
+/* -- Mending marks (mend.c) -- */
+
+int check_mends(const uint8_t *message);
+void mends(const uint8_t *message);
 
 /* -- What sheets mean (plans.c) -- */
 
