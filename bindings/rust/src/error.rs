@@ -34,7 +34,8 @@ pub enum Error {
     Long,
     /// 5: a sheet of more than 1,024 records, or bytes that aren't whole records.
     Sheet,
-    /// 6: too few words for the marks. Never met.
+    /// 6: too few words for the marks. [`Sheet::from_kept`](crate::Sheet::from_kept) and
+    /// [`Sheet::mend_marks`](crate::Sheet::mend_marks) alone give it.
     Marks,
     /// 7: there is no record at this place.
     Place,

@@ -24,6 +24,15 @@ pub struct Answer {
     pub rounds: u64,
 }
 
+/// struct luffa_mend_answer.
+#[repr(C)]
+pub struct MendAnswer {
+    pub number: u64,
+    pub wrong: u64,
+    pub first: u64,
+    pub rounds: u64,
+}
+
 /// struct luffa_content_answer.
 #[repr(C)]
 pub struct ContentAnswer {
@@ -104,6 +113,14 @@ unsafe extern "C" {
         out: *mut u8,
         out_len: usize,
     ) -> Answer;
+    fn luffa_sheet_mend(
+        code: usize,
+        sheet: *const u8,
+        sheet_len: usize,
+        n: usize,
+        marks: *mut u32,
+        marks_len: usize,
+    ) -> MendAnswer;
     fn luffa_sheet_change(
         code: usize,
         sheet: *mut u8,
@@ -295,6 +312,21 @@ pub fn build(code: usize, sheet: &[u8], n: usize, marks: &mut [u32], out: &mut [
             marks.len(),
             out.as_mut_ptr(),
             out.len(),
+        )
+    }
+}
+
+pub fn mend(code: usize, sheet: &[u8], n: usize, marks: &mut [u32]) -> MendAnswer {
+    // SAFETY: `sheet` is read, `marks` are read and written within their lengths, that of marks in words;
+    // they are distinct borrows.
+    unsafe {
+        luffa_sheet_mend(
+            code,
+            sheet.as_ptr(),
+            sheet.len(),
+            n,
+            marks.as_mut_ptr(),
+            marks.len(),
         )
     }
 }

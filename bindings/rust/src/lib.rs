@@ -52,6 +52,9 @@
 //! # Ok::<(), Error>(())
 //! ```
 //!
+//! Its marks, which spare a save the hashing of the whole sheet, may be kept with the records;
+//! [`Sheet::from_kept`] mends those that a disk has spoiled, and says which was the first.
+//!
 //! What the records mean to the balancer is in [`plan`]: a [`Well`](plan::Well) has the fields of a
 //! record, [`Sheet::check`] says whether the wells of a sheet are sound, and [`plan::brine()`] what
 //! the injectors of many sheets are sent and have to spare.
@@ -77,7 +80,7 @@ pub use code::Code;
 pub use digest::{Digest, ParseDigestError};
 pub use error::Error;
 pub use hash::{Luffa224, Luffa256, Luffa384, Luffa512, OUTPUT_BYTES_MOST, RECORD_BYTES};
-pub use sheet::{Saved, Sheet};
+pub use sheet::{Mended, Saved, Sheet};
 
 /// The example in the README runs too.
 #[cfg(doctest)]

@@ -7,12 +7,15 @@ use std::fmt;
 
 #[cfg(test)]
 mod history;
+mod mend;
 #[cfg(test)]
 mod tests;
 
+pub use mend::Mended;
+
 /// The words that the marks of n records need.
 const fn marks_for(n: usize) -> usize {
-    40 * (n / 4 + 1)
+    Sheet::MARK_WORDS * (n / 4 + 1)
 }
 
 /// The records in these bytes. One that isn't whole is counted, so that the library finds too few bytes
@@ -27,8 +30,9 @@ pub(crate) fn records_in(bytes: &[u8]) -> usize {
 /// since, the answer is [`Error::Stale`] and nothing is changed. A claim speaks of content: a sheet
 /// that was changed and changed back has its old digest again.
 ///
-/// The sheet keeps the library's marks to itself, so that a save hashes only what comes after the
-/// place it changes and always answers the digest of the whole sheet.
+/// The sheet holds the library's marks and lets nobody write to them, so that a save hashes only what
+/// comes after the place it changes and always answers the digest of the whole sheet. Whoever keeps
+/// them with the records opens the sheet by [`from_kept`](Sheet::from_kept), which mends them.
 ///
 /// ```
 /// use luffa::{Code, Sheet};
@@ -127,15 +131,21 @@ impl Sheet {
             ffi::build(code.number(), bytes, n, &mut marks, out)
         });
         Error::judge(answer.number, answer.rounds)?;
+        Ok(Sheet::holding(code, bytes, marks, digest))
+    }
+
+    /// A sheet of whole records, with their marks and their digest.
+    fn holding(code: Code, bytes: &[u8], marks: Vec<u32>, digest: Digest) -> Sheet {
+        let n = records_in(bytes);
         let mut records = vec![[0; Sheet::RECORD_BYTES]; n];
         records.as_flattened_mut().copy_from_slice(bytes);
-        Ok(Sheet {
+        Sheet {
             code,
             records,
             n,
             marks,
             digest,
-        })
+        }
     }
 
     /// The code of the sheet's digests.

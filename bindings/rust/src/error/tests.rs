@@ -1,6 +1,6 @@
 //! The refusals: luffa.h's numbers, document 01's each met from the library itself. Those of longer output
-//! are met in hash/output/tests.rs too, and those that a brine statement alone gives in
-//! plan/brine/refusals.rs.
+//! are met in hash/output/tests.rs too, those of a mend in sheet/mend/refusals.rs, and those that a brine
+//! statement alone gives in plan/brine/refusals.rs.
 
 use super::Error;
 use crate::ffi::{self, Lent};
@@ -50,6 +50,8 @@ fn met_by_callers() {
     assert_eq!(Luffa256::output("", &mut out[..10]), Err(Error::Out));
     let over = Sheet::from_records(code, &[[0; 40]; 1025]);
     assert_eq!(over.err(), Some(Error::Sheet));
+    let few = Sheet::from_kept(code, &[0; 160], &[0; 79]);
+    assert_eq!(few.err(), Some(Error::Marks));
 
     let mut sheet = Sheet::from_records(code, &[[0; 40]; 1024]).unwrap();
     let (claim, other) = (sheet.digest(), Digest::from([0; 28]));

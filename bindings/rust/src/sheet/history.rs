@@ -1,5 +1,7 @@
-//! Histories of random saves against a plain list of records that is hashed afresh each time.
+//! Histories of random saves, with mends between them, against a plain list of records that is hashed afresh
+//! each time.
 
+use super::mend::tests::{found, spoil};
 use super::{Saved, Sheet};
 use crate::random::Numbers;
 use crate::{Code, Digest, Error};
@@ -115,6 +117,14 @@ fn random_saves() {
             if k % 10 == 0 {
                 sheet.holds();
                 old = claim;
+            }
+            // At times the desk closes, and the disk gives some marks back spoiled.
+            if k % 20 == 19 {
+                let mut marks = sheet.marks().to_vec();
+                let wrong = spoil(&mut numbers, &mut marks);
+                let (opened, mended) = Sheet::from_kept(code, sheet.bytes(), &marks).unwrap();
+                assert_eq!(mended, found(&sheet, &wrong), "save {k}");
+                sheet = opened;
             }
             let number = got.map_or_else(|refused| refused.number(), |_| 0);
             *met.entry((name, number)).or_insert(0) += 1;

@@ -13,7 +13,7 @@ impl Sheet {
         let (mut marks, mut out) = (vec![0; marks_for(n)], [0; 64]);
         let built = ffi::build(code.number(), self.bytes(), n, &mut marks, &mut out);
         assert_eq!((built.number, built.count), (0, n as u64));
-        assert!(self.marks[..marks_for(n)] == marks, "{n} records: marks");
+        assert!(self.marks() == marks, "{n} records: marks");
         assert!(self.records.len() <= Sheet::MOST);
     }
 }
