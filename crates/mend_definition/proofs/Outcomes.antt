@@ -20,8 +20,9 @@ use Rattle.sheet_definition.specs.Said.{Laid}
 use Rattle.sheet_definition.proofs.Refused.{code-known, records-fit, marks-fit}
 use Rattle.sheet_definition.proofs.Build.{build-number, build-stays, build-laid}
 use Rattle.sheet_definition.proofs.Rebuilt.{marks-same}
-use Rattle.mend_definition.specs.declared.FirstWrong.the-variants.{At}
-use Rattle.mend_definition.specs.Mend.{trueMark, replaced, wrongOf, firstIn, saying, mendRounds, mendRefusals, MendOutcome, mended, refusedBy, mend, mendOutcome}
+use Rattle.mend_definition.specs.declared.FirstWrong.{FirstWrong}
+use Rattle.mend_definition.specs.declared.FirstWrong.the-variants.{None, At}
+use Rattle.mend_definition.specs.Mend.{trueMark, replaced, wrongOf, firstIn, saying, mendRounds, mendRefusals, MendOutcome, mended, refusedBy, mend, mendOutcome, markIn, mendAnswer}
 use Rattle.mend_definition.specs.Said.{differing, Lowest, Says, MendStays, MendRefused, Opening, opened}
 use Rattle.mend_definition.specs.Said.Opening.{Mend}
 use Rattle.mend_definition.proofs.Replaced.{Replaced, all-behind, replaced-so}
@@ -160,6 +161,15 @@ module _ (w : World) where
             none = (λ e. refl, λ e. refl);
             nothing-written = (λ e. refl, λ e. refl);
           }
+
+  -- in the answer for C, where some were wrong, the first is told by its number
+  pub answer-first : (mend w .answer .wrong ≡ 0 → ⊥) → mend w .answer .first ≡ At (mendAnswer (mend w .answer) .first)
+  unfolding markIn
+  answer-first h = go (mend w .answer .first) (λ e. h (mend-says .none .0 e))
+    where
+      go : (f : FirstWrong) → (f ≡ None → ⊥) → f ≡ At (markIn f)
+      go None n = absurd (n refl)
+      go (At m) n = refl
 
   -- "Afterwards the marks are those that build would leave": of the same sheet in the same words, all of them
   module _ (out : List ℕ) (h : bytesAt (w .code) ≤ length out) (e : mend w .answer .number ≡ 0) where
