@@ -256,9 +256,10 @@ struct luffa_output_answer luffa_hash_finish_output(const struct luffa_hash *has
  *   - 11 LUFFA_STALE: somebody else has saved since. Nothing was written: open again and look.
  * A claim speaks of content: a sheet that was changed and changed back has its old digest again.
  *
- * The duty that no save can judge: marks are those that build or mend wrote for this sheet at this
+ * The duty that no save can judge: marks are those that build or mend left for this sheet at this
  * code, or that the saves since have left. A save takes the words as it finds them, and answers what
- * follows from them; only from true marks is that the digest of the sheet. In doubt, mend.
+ * follows from them; only from true marks is that the digest of the sheet. In doubt, build; or mend,
+ * which says what was wrong.
  */
 #define LUFFA_SHEET_MOST 1024
 #define LUFFA_SHEET_RECORD_BYTES 40
@@ -297,7 +298,8 @@ struct luffa_mend_answer {
  * each mark of it that isn't true, and says which was the first and how many there were. All 40 words
  * are compared, so a word set in an unused block makes a mark wrong. Afterwards the marks are those that
  * luffa_sheet_build would leave, and a save may follow. Nothing else is written, and where none was wrong
- * nothing at all. It can't tell whether the records are those that were saved: for this compare the digest.
+ * nothing at all. The records are taken as they are: whether they are those that were saved, the digest
+ * tells.
  *   1 LUFFA_WIDTH   code isn't 1 to 4
  *   5 LUFFA_SHEET   n is over LUFFA_SHEET_MOST, or sheet_len is less than 40n
  *   6 LUFFA_MARKS   marks_len is less than LUFFA_MARKS_FOR(n)
