@@ -1,33 +1,28 @@
 -- The walk through a sheet: what stands at mark k, and that looking at it and absorbing the group after it brings the walk to the next.
 -- Assumes nothing.
-use mathlib.Core.Path.{_≡_, refl, sym, ap, ap₂, _∙_}
+use mathlib.Core.Path.{_≡_, refl, sym, ap, _∙_}
 use mathlib.Core.Bool.{Bool, true, false, not}
 use mathlib.Core.List.{List, [], _∷_, _++_, append-nil}
 use Prim.Native.Nat.{ℕ, zero, suc, _+_, _-_, _*_, _/_, _^_, _<_, _≤_}
 use native.Mathlib.Omega.{arith}
 use borrow.Author.Tests.{ne-eqb}
-use lib.Dec.{eqb}
 use lib.ListN.{length, take, drop, length-append, length-drop}
 use lib.Seq.{length-take-le}
-use Rattle.definition.specs.declared.Block.{Block}
 use Rattle.definition.specs.declared.Counted.{Counted}
-use Rattle.definition.specs.declared.State.{State}
 use Rattle.definition.specs.declared.Width.{Width}
-use Rattle.definition.specs.Block.{wordsOfAll}
-use Rattle.definition.specs.State.{five, blocksIn, stateOf}
+use Rattle.definition.specs.State.{blocksIn, stateOf}
 use Rattle.definition.specs.Round.{chain}
-use Rattle.definition.specs.Padding.{blocksTo, blocks}
+use Rattle.definition.specs.Padding.{blocks}
 use Rattle.definition.specs.Start.{start}
 use Rattle.definition.specs.Width.{widthAt}
 use Rattle.definition.specs.Counted.{countedChain}
-use Rattle.definition.specs.Buffer.{overwriteAt, same}
+use Rattle.definition.specs.Buffer.{same}
 use Rattle.definition.specs.Refusal.{pick}
 use Rattle.definition.proofs.Chain.{counted-state, counted-rounds, blocks-of-chain, length-start}
 use Rattle.sheet_definition.specs.Sheet.{World, groupBytes, markWords, q}
-use Rattle.sheet_definition.specs.Marks.{markAt, markOf, stateAfter}
+use Rattle.sheet_definition.specs.Marks.{markOf, stateAfter}
 use Rattle.sheet_definition.proofs.Marks.{chain-parts, length-blocksTo}
-use Rattle.mend_definition.specs.declared.FirstWrong.the-variants.{None, At}
-use Rattle.mend_definition.specs.Mend.{trueMark, isWrong, replaced, wrongOf, firstIn, saying, mendRounds, MendOutcome, mended}
+use Rattle.mend_definition.specs.Mend.{trueMark, isWrong, replaced, wrongOf, firstIn, saying, mendRounds, mended}
 use Rattle.mend_definition.proofs.Replaced.{replaced-so, not-yet}
 use Rattle.mend.specs.declared.Found.{Found}
 use Rattle.mend.specs.Look.{other, noted, put}

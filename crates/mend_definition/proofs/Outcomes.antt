@@ -23,7 +23,7 @@ use Rattle.sheet_definition.proofs.Rebuilt.{marks-same}
 use Rattle.mend_definition.specs.declared.FirstWrong.{FirstWrong}
 use Rattle.mend_definition.specs.declared.FirstWrong.the-variants.{None, At}
 use Rattle.mend_definition.specs.Mend.{trueMark, replaced, wrongOf, firstIn, saying, mendRounds, mendRefusals, MendOutcome, mended, refusedBy, mend, mendOutcome, markIn, mendAnswer}
-use Rattle.mend_definition.specs.Said.{differing, Lowest, Says, MendStays, MendRefused, Opening, opened}
+use Rattle.mend_definition.specs.Said.{Says, MendStays, MendRefused, opened}
 use Rattle.mend_definition.specs.Said.Opening.{Mend}
 use Rattle.mend_definition.proofs.Replaced.{Replaced, all-behind, replaced-so}
 use Rattle.mend_definition.proofs.Found.{not-at, none-differing, wrong-counted, first-lowest, none-differs, none-first}
