@@ -29,3 +29,8 @@ module _ {A : Type 0} (P : A → Type 0) where
   every-at [] d p h (suc i) = p
   every-at (a ∷ l) d p h zero = h .0
   every-at (a ∷ l) d p h (suc i) = every-at l d p (h .1) i
+
+-- what follows from it holds of every element too
+pub every-so : {A : Type 0} (P Q : A → Type 0) (l : List A) → ((a : A) → P a → Q a) → Every P l → Every Q l
+every-so P Q [] f h = tt
+every-so P Q (a ∷ l) f h = (f a (h .0), every-so P Q l f (h .1))

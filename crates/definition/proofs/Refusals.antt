@@ -95,7 +95,12 @@ unfolding whenDone
 not-done zero a b h = absurd (h refl)
 not-done (suc k) a b h = refl
 
--- where two judgements in their order give 0, the second is 0
+-- where two judgements in their order give 0, both are 0
+pub first-done : (a b : ℕ) → whenDone a b a ≡ 0 → a ≡ 0
+unfolding whenDone
+first-done zero b e = refl
+first-done (suc a) b e = e
+
 pub second-done : (a b : ℕ) → whenDone a b a ≡ 0 → b ≡ 0
 unfolding whenDone
 second-done zero b e = e

@@ -33,6 +33,8 @@ pub const WORDS: u32 = 12;
 
 pub const BATCH: u32 = 13;
 
+pub const SET: u32 = 14;
+
 pub const ODD: u32 = 17;
 
 pub const LIST: u32 = 25;

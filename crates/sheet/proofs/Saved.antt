@@ -12,7 +12,7 @@ use Rattle.definition.specs.Buffer.{overwriteAt, overwrite}
 use Rattle.definition.specs.Refusal.{pick, firstOf, whenDone}
 use Rattle.sheet_definition.specs.Sheet.{World, recordBytes, q, r, F, checkRounds}
 use Rattle.sheet_definition.specs.Marks.{markOf, worked}
-use Rattle.sheet_definition.specs.Save.{SheetOutcome, doneWith, checked, reworked, saveOutcome}
+use Rattle.sheet_definition.specs.Save.{SheetOutcome, doneWith, checked, reworked, roundsBefore, saveOutcome}
 use Rattle.sheet_definition.specs.SheetCalls.{Call, oneRecord, editOf, saveOf, call}
 use Rattle.definition.proofs.Codes.{words-le}
 use Rattle.sheet_definition.proofs.Outcomes.{accepted}
@@ -34,7 +34,7 @@ pub put-together : (w : World) (number place count : ℕ) (x claim out₀ : List
     → out ≡ overwrite (worked (w .code) count sheet marks (q place) .digest) out₀
     → record { answer = record { number = 0; count = count; rounds = rounds }; sheet = sheet; marks = marks'; out = out }
     ≡ accepted w (recordSave number w place x count claim out₀)
-unfolding doneWith reworked oneRecord
+unfolding doneWith reworked roundsBefore pick oneRecord
 put-together w number place count x claim out₀ before rounds sheet marks marks' out b s c r m o = rw (r, m, o, s, c, b)
 
 -- a save of one record, judged by the number of a call's refusals: it is that call, where the record has its size and the edit is the call's

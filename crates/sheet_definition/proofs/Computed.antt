@@ -3,10 +3,10 @@ use Rattle.definition.proofs.Computed.{everything as luffas}
 use Rattle.sheet_definition.specs.Sheet.{q, r, N, F, roundsFrom, buildRounds, checkRounds}
 use Rattle.sheet_definition.specs.Refusals.{sheetRefusal, marksRefusal, placeRefusal, fullRefusal, sizeRefusal, claimRefusal, buildRefusals, changeRefusals, appendRefusals, dropRefusals}
 use Rattle.sheet_definition.specs.Marks.{held, markAt, blockFrom, stateFrom, markOf, marksAfter, roundsAfter, worked}
-use Rattle.sheet_definition.specs.Save.{refusedWith, doneWith, checked, staleClaim, reworked, saveOutcome, saveRounds}
+use Rattle.sheet_definition.specs.Save.{refusedWith, doneWith, checked, staleClaim, reworked, roundsBefore, saveOutcome, saveRounds}
 use Rattle.sheet_definition.specs.SheetCalls.{buildOutcome, refusalsOf, oneRecord, withoutLast, editOf, saveOf, call}
 use Rattle.sheet_definition.specs.Run.{left, next}
 
 unfoldable pub everything : Unit {0}
-unfolding luffas q r N F roundsFrom buildRounds checkRounds sheetRefusal marksRefusal placeRefusal fullRefusal sizeRefusal claimRefusal buildRefusals changeRefusals appendRefusals dropRefusals held markAt blockFrom stateFrom markOf marksAfter roundsAfter worked refusedWith doneWith checked staleClaim reworked saveOutcome saveRounds buildOutcome refusalsOf oneRecord withoutLast editOf saveOf call left next
+unfolding luffas q r N F roundsFrom buildRounds checkRounds sheetRefusal marksRefusal placeRefusal fullRefusal sizeRefusal claimRefusal buildRefusals changeRefusals appendRefusals dropRefusals held markAt blockFrom stateFrom markOf marksAfter roundsAfter worked refusedWith doneWith checked staleClaim reworked roundsBefore saveOutcome saveRounds buildOutcome refusalsOf oneRecord withoutLast editOf saveOf call left next
 everything = tt

@@ -19,12 +19,12 @@ use Rattle.sheet_definition.specs.SheetCalls.{Kind, Call, refusalsOf, on
 use Rattle.sheet_definition.specs.SheetCalls.Kind.{Change, Append, Drop}
 use Rattle.sheet_definition.specs.Run.{listAfter}
 use Rattle.sheet_definition.specs.Said.{Stale, Forty, Stands}
-use Rattle.definition.proofs.Every.{every-take, every-append, every-set}
+use Rattle.definition.proofs.Every.{every-take, every-append}
 use Rattle.definition.proofs.Buffer.{length-overwriteAt, take-overwriteAt, drop-overwriteAt}
 use Rattle.definition.proofs.Refusals.{Numbered, fails}
-use Rattle.sheet_definition.proofs.Joined.{joined-append, joined-take, joined-set, take-overwritten, take-added}
+use Rattle.sheet_definition.proofs.Joined.{Listed, listed-by, listed-set, joined-append, joined-take, take-added}
 use Rattle.sheet_definition.proofs.Writes.{Rewritten}
-use Rattle.sheet_definition.proofs.Refused.{Fits, fits, place-held, one-more, record-sized, claim-sized, judging}
+use Rattle.sheet_definition.proofs.Refused.{Fits, fits, place-held, one-more, records-sized, claim-sized, judging}
 use Rattle.sheet_definition.proofs.Fair.{Fair, Proper, read-written, one-fair}
 
 -- "When r = 0 it zeroes mark q.", and else none
@@ -90,11 +90,11 @@ module _ (w : World) (c : Call) where
   module _ (x : List ℕ) where
     pub change-size : (place : ℕ) → firstOf (refusals (Change place x)) ≡ 0 → length x ≡ recordBytes
     unfolding judging
-    change-size place e = record-sized (length x) (fails (refusals (Change place x)) (numbered (Change place x)) e SIZE)
+    change-size place e = records-sized 1 (length x) (fails (refusals (Change place x)) (numbered (Change place x)) e SIZE)
 
     pub append-size : firstOf (refusals (Append x)) ≡ 0 → length x ≡ recordBytes
     unfolding judging
-    append-size e = record-sized (length x) (fails (refusals (Append x)) (numbered (Append x)) e SIZE)
+    append-size e = records-sized 1 (length x) (fails (refusals (Append x)) (numbered (Append x)) e SIZE)
 
   pub fair : (k : Kind) → firstOf (refusals k) ≡ 0 → Fair w (editOf w k)
   unfolding judging editOf
@@ -134,26 +134,12 @@ module _ (w : World) (c : Call) where
         fair = fair (c .kind);
       }
 
-  -- what a save that is done leaves are records of 40 bytes, as many as the new count, and those that the new sheet holds
-  pub record Listed (e : Edit) (rs : List (List ℕ)) : Type 0 where
-    pub sized : Forty rs
-    pub counted : length rs ≡ e .count
-    pub holds : held (e .count) (e .sheet) ≡ joined rs
-
-  pub listed : (k : Kind) (rs : List (List ℕ)) → Stands w rs → firstOf (refusals k) ≡ 0 → Listed (editOf w k) (listAfter k rs)
+  -- what a save that is done makes of the list is what its sheet holds
+  pub listed : (k : Kind) (rs : List (List ℕ)) → Stands w rs → firstOf (refusals k) ≡ 0 → Listed (editOf w k .count) (editOf w k .sheet) (listAfter k rs)
   unfolding judging editOf oneRecord listAfter held joined
   listed (Change place x) rs s e =
-      let n : length x ≡ recordBytes = change-size x place e in
-      let h : place < w .n = place-held (w .n) place (fails (refusals (Change place x)) (numbered (Change place x)) e PLACE) in
-      record {
-        sized = every-set _ rs place x n (s .sized);
-        counted = length-set rs place x ∙ s .counted;
-        holds = rw (
-          take-overwritten (recordBytes * place) (recordBytes * w .n) x (w .sheet) (omega arith) (s .sheet-room),
-          joined-set rs place x n (s .sized) (omega (arith, s .counted)),
-          s .holds,
-        );
-      }
+      listed-set (w .n) place x (w .sheet) rs (change-size x place e)
+      (place-held (w .n) place (fails (refusals (Change place x)) (numbered (Change place x)) e PLACE)) (s .sheet-room) (listed-by w rs s)
   listed (Append x) rs s e =
       let n : length x ≡ recordBytes = append-size x e in
       record {

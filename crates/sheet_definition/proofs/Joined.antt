@@ -1,16 +1,18 @@
--- Records of 40 bytes one after the other: a record replaced, added or removed, and the bytes.
+-- Records of 40 bytes one after the other: a record replaced, added or removed, and the bytes; and the list of records that a sheet holds.
 -- Assumes nothing.
 use mathlib.Core.Path.{_≡_, refl, sym, ap, _∙_}
 use mathlib.Core.List.{List, [], _∷_, _++_, append-assoc}
 use Prim.Native.Nat.{ℕ, zero, suc, _+_, _*_, _<_, _≤_}
 use native.Mathlib.Nat.{add-assoc}
 use native.Mathlib.Omega.{arith}
-use lib.ListN.{length, take, drop, set, length-append, length-drop, take-append-drop}
+use lib.ListN.{length, take, drop, set, length-append, length-set, length-drop, take-append-drop}
 use lib.Seq.{length-take-le, take-nil, take-at, drop-at, take-append-le, drop-append-le, take-append-add, drop-append-add, take-add}
 use Rattle.definition.specs.Buffer.{overwriteAt, joined}
-use Rattle.sheet_definition.specs.Sheet.{recordBytes}
+use Rattle.sheet_definition.specs.Sheet.{World, recordBytes}
+use Rattle.sheet_definition.specs.Marks.{held}
 use Rattle.sheet_definition.specs.Run.{cut}
-use Rattle.sheet_definition.specs.Said.{Forty}
+use Rattle.sheet_definition.specs.Said.{Forty, Stands}
+use Rattle.definition.proofs.Every.{every-set}
 use Rattle.definition.proofs.Buffer.{length-overwriteAt}
 
 length-joined : (rs : List (List ℕ)) → Forty rs → length (joined rs) ≡ recordBytes * length rs
@@ -83,3 +85,27 @@ joined-cut zero l = refl
 joined-cut (suc n) l =
     let e : recordBytes * suc n ≡ recordBytes + recordBytes * n = omega arith in
     rw (joined-cut n (drop recordBytes l), e, take-add recordBytes (recordBytes * n) l)
+
+-- the first n records of a sheet are those of a list
+pub record Listed (n : ℕ) (sheet : List ℕ) (rs : List (List ℕ)) : Type 0 where
+  pub sized : Forty rs
+  pub counted : length rs ≡ n
+  pub holds : held n sheet ≡ joined rs
+
+pub listed-by : (w : World) (rs : List (List ℕ)) → Stands w rs → Listed (w .n) (w .sheet) rs
+listed-by w rs s = record { sized = s .sized; counted = s .counted; holds = s .holds }
+
+-- and so with a record replaced
+pub listed-set : (n place : ℕ) (x sheet : List ℕ) (rs : List (List ℕ)) → length x ≡ recordBytes → place < n → recordBytes * n ≤ length sheet
+    → Listed n sheet rs → Listed n (overwriteAt (recordBytes * place) x sheet) (set rs place x)
+unfolding held
+listed-set n place x sheet rs e h r l =
+    record {
+      sized = every-set _ rs place x e (l .sized);
+      counted = length-set rs place x ∙ l .counted;
+      holds = rw (
+        take-overwritten (recordBytes * place) (recordBytes * n) x sheet (omega arith) r,
+        joined-set rs place x e (l .sized) (omega (arith, l .counted)),
+        l .holds,
+      );
+    }

@@ -19,7 +19,7 @@ use Rattle.definition.specs.Width.{blockCount, widthAt}
 use Rattle.definition.specs.Start.{start}
 use Rattle.definition.specs.State.{five, blocksIn, stateOf}
 use Rattle.definition.specs.Buffer.{overwriteAt}
-use Rattle.definition.specs.Luffa.{luffa}
+use Rattle.definition.specs.Luffa.{digestAfter, luffa}
 use Rattle.sheet_definition.specs.Sheet.{recordBytes, groupBytes, markWords, q, N, F, roundsFrom}
 use Rattle.sheet_definition.specs.Marks.{held, markAt, blockFrom, stateFrom, markOf, marksAfter, roundsAfter, worked, stateAfter, TrueMark, TrueMarks}
 use Rattle.definition.proofs.Chain.{chain-append, blocks-of-state, length-chain, length-start}
@@ -41,19 +41,28 @@ chain-parts w h k n x l =
     let e : length (take (groupBytes * k) x) ≡ 5 * k * 32 = length-take-le (groupBytes * k) x l ∙ omega arith in
     rw (take-add (groupBytes * k) n x, blocks-append (5 * k) (take (groupBytes * k) x) (take n (drop (groupBytes * k) x)) e, chain-append)
 
+-- the digest after some groups, from the state before them
+pub digest-parts : (code k : ℕ) (h : List Block) (x : List ℕ) → groupBytes * k ≤ length x
+    → digestAfter code (chain (widthAt code) h (blocks (take (groupBytes * k) x))) (drop (groupBytes * k) x) ≡ digestAfter code h x
+digest-parts code k h x l =
+    let y : List ℕ = take (groupBytes * k) x in
+    let z : List ℕ = drop (groupBytes * k) x in
+    let e : length y ≡ 5 * k * 32 = length-take-le (groupBytes * k) x l ∙ omega arith in
+    let b : blocks (padded closing x) ≡ blocks y ++ blocks (padded closing z) =
+    ap (λ (t : List ℕ). blocks (padded closing t)) (sym (take-append-drop (groupBytes * k) x))
+    ∙ rw (padded-append (5 * k) closing y z e, blocks-append (5 * k) y (padded closing z) e) in
+    rw (digest-bytes code _ z, digest-bytes code h x, b, chain-append)
+
 -- the digest worked from a true mark is Luffa of the whole sheet
 pub digest-from-mark : (code n m : ℕ) (sheet marks : List ℕ) → TrueMark code sheet marks m → m ≤ q n → recordBytes * n ≤ length sheet
     → worked code n sheet marks m .digest ≡ luffa code (held n sheet)
 unfolding worked TrueMark stateAfter held q
 digest-from-mark code n m sheet marks t h l =
-    let y : List ℕ = take (groupBytes * m) sheet in
-    let x : List ℕ = drop (groupBytes * m) (take (recordBytes * n) sheet) in
-    let e : length y ≡ 5 * m * 32 = length-take-le (groupBytes * m) sheet (omega arith) ∙ omega arith in
-    let s : take (recordBytes * n) sheet ≡ y ++ x =
-    rw (take-take (groupBytes * m) (recordBytes * n) sheet (omega arith)) at (sym (take-append-drop (groupBytes * m) (take (recordBytes * n) sheet))) in
-    let b : blocks (padded closing (take (recordBytes * n) sheet)) ≡ blocks y ++ blocks (padded closing x) =
-    ap (λ (z : List ℕ). blocks (padded closing z)) s ∙ rw (padded-append (5 * m) closing y x e, blocks-append (5 * m) y (padded closing x) e) in
-    rw (digest-bytes code _ x, luffa-bytes code (take (recordBytes * n) sheet), t, b, chain-append)
+    let x : List ℕ = take (recordBytes * n) sheet in
+    rw (t, ← take-take (groupBytes * m) (recordBytes * n) sheet (omega arith))
+    (digest-parts code m (start (widthAt code)) x (omega (arith, length-take-le (recordBytes * n) sheet l))
+    ∙ digest-bytes code (start (widthAt code)) x
+    ∙ sym (luffa-bytes code x))
 
 -- the number of blocks of a padded string
 pub length-blocksTo : (n : ℕ) (x : List ℕ) → length (blocksTo n x) ≡ n
@@ -79,6 +88,13 @@ rounds-from-mark code n m sheet marks h l =
       length-drop (groupBytes * m) (take (recordBytes * n) sheet),
       length-take-le (recordBytes * n) sheet l,
     )
+
+-- a mark's state is that of its used blocks
+pub length-state : (w : Width) (ws : List ℕ) → length (stateFrom w ws) ≡ blockCount w
+unfolding stateFrom blockCount
+length-state W3 ws = refl
+length-state W4 ws = refl
+length-state W5 ws = refl
 
 -- five blocks as words, read again
 read : (w : Width) (s : State) → stateFrom w (wordsOfAll (five s)) ≡ blocksIn w s

@@ -9,7 +9,7 @@ use native.Mathlib.Omega.{arith}
 use Rattle.definition.specs.Buffer.{Every}
 use Rattle.definition.specs.Refusal.{First, pick, firstOf, whenDone}
 use Rattle.sheet_definition.specs.Sheet.{World}
-use Rattle.sheet_definition.specs.Save.{SheetOutcome, refusedWith, doneWith, Save, checked, staleClaim, reworked, saveOutcome}
+use Rattle.sheet_definition.specs.Save.{SheetOutcome, refusedWith, doneWith, Save, checked, staleClaim, reworked, roundsBefore, saveOutcome}
 use Rattle.sheet_definition.specs.Said.{Stale, Untouched}
 use Rattle.definition.proofs.Refusals.{Numbered, of-first, first-given, given-first, in-turn}
 
@@ -21,7 +21,7 @@ module _ (w : World) (s : Save) where
   turnedAway = refusedWith w (s .out) (s .staleNumber) (checked w .rounds)
 
   abbrev pub accepted : SheetOutcome
-  accepted = doneWith (s .edit .count) (s .edit .sheet) (reworked w (s .edit)) (checked w .rounds) (s .out)
+  accepted = doneWith (s .edit .count) (s .edit .sheet) (reworked w (s .edit)) (roundsBefore w (s .edit)) (s .out)
 
   -- the three, each from what leads to it
   pub refused-is : {k : ℕ} → k ≡ firstOf (s .refusals) → (k ≡ 0 → ⊥) → refusedWith w (s .out) k 0 ≡ saveOutcome w s

@@ -46,9 +46,9 @@ one-more n sheet marks e =
     let u = either-false (eqb n most) (ltb sheet (recordBytes * (n + 1))) (t .0) in
     (eqb-false n most (u .0), ltb-false sheet (recordBytes * (n + 1)) (u .1), ltb-false marks (markWords * (q (n + 1) + 1)) (t .1))
 
-pub record-sized : (x : ℕ) → sizeRefusal x .1 ≡ false → x ≡ recordBytes
+pub records-sized : (k x : ℕ) → sizeRefusal k x .1 ≡ false → x ≡ recordBytes * k
 unfolding sizeRefusal
-record-sized x e = eqb-true x recordBytes (not-false (eqb x recordBytes) e)
+records-sized k x e = eqb-true x (recordBytes * k) (not-false (eqb x (recordBytes * k)) e)
 
 pub claim-sized : (bytes claim : ℕ) → claimRefusal bytes claim .1 ≡ false → claim ≡ bytes
 unfolding claimRefusal

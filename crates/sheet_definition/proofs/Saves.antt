@@ -20,7 +20,7 @@ use Rattle.definition.specs.Buffer.{overwrite, same}
 use Rattle.definition.specs.Refusal.{firstOf}
 use Rattle.sheet_definition.specs.Sheet.{World, recordBytes, groupBytes, markWords, q, checkRounds}
 use Rattle.sheet_definition.specs.Marks.{held, markAt, stateFrom, markOf, worked, stateAfter, TrueMark, TrueMarks}
-use Rattle.sheet_definition.specs.Save.{SheetOutcome, refusedWith, doneWith, Save, checked, staleClaim, reworked, saveOutcome, saveRounds}
+use Rattle.sheet_definition.specs.Save.{SheetOutcome, refusedWith, doneWith, Save, checked, staleClaim, reworked, roundsBefore, saveOutcome, saveRounds}
 use Rattle.sheet_definition.specs.Run.{left}
 use Rattle.sheet_definition.specs.Said.{Stale, Written, Rounds, Stays, Freed}
 use Rattle.definition.proofs.Buffer.{length-overwriteAt}
@@ -109,7 +109,7 @@ module _ (w : World) (s : Save) (p : Proper w s) where
 
   -- an answer's rounds, from true marks or false
   pub save-rounds : Rounds (outcome .answer) (saveRounds w (s .edit)) (checkRounds (w .code) (w .n))
-  unfolding refusedWith doneWith saveRounds reworked q
+  unfolding refusedWith doneWith saveRounds roundsBefore reworked q
   save-rounds =
       by-answer w s (λ o. Rounds (o .answer) (saveRounds w (s .edit)) (checkRounds (w .code) (w .n)))
       (λ k e. record {
@@ -124,10 +124,9 @@ module _ (w : World) (s : Save) (p : Proper w s) where
       })
       (λ e t. record { when-done = λ h. work (p .room e) (p .fair e); when-stale = λ h. absurd (omega arith); none = λ h i. absurd (h refl) })
     where
-      work : Fits w (s .out) → Fair w (s .edit) → checked w .rounds + reworked w (s .edit) .rounds ≡ saveRounds w (s .edit)
+      work : Fits w (s .out) → Fair w (s .edit) → roundsBefore w (s .edit) + reworked w (s .edit) .rounds ≡ saveRounds w (s .edit)
       work r f =
-          omega (
-            arith,
+          rw (
             check-rounds w (r .sheet-room),
             rounds-from-mark (w .code) (s .edit .count) m (s .edit .sheet) (s .edit .marks) (omega (arith, f .first-left)) (omega (arith, f .new-sheet-room, f .sheet-size)),
           )

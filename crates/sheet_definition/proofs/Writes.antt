@@ -21,7 +21,7 @@ use Rattle.definition.specs.Buffer.{overwriteAt, same}
 use Rattle.sheet_definition.specs.Sheet.{groupBytes, markWords, q}
 use Rattle.sheet_definition.specs.Marks.{held, markAt, stateFrom, markOf, marksAfter, worked}
 use Rattle.definition.proofs.Cases.{same→eq}
-use Rattle.definition.proofs.Buffer.{length-overwriteAt, take-overwriteAt, drop-overwriteAt}
+use Rattle.definition.proofs.Buffer.{overwriteAt-none, length-overwriteAt, take-overwriteAt, drop-overwriteAt}
 use Rattle.definition.proofs.Output.{length-output}
 
 -- the test of two lists is true exactly when they are equal
@@ -78,6 +78,19 @@ rewritten code n m sheet marks h l =
       before = take-overwriteAt i i p marks (omega arith) (omega arith);
       behind = λ e f. drop-overwriteAt i (markWords * (e + 1)) p marks (omega arith) (omega arith);
     }
+
+-- from the last mark on no mark is written
+pub nothing-written : (w : Width) (n : ℕ) (h : List Block) (x marks : List ℕ) → markWords * (q n + 1) ≤ length marks
+    → overwriteAt (markWords * (q n + 1)) (marksAfter w (q n - q n) h x) marks ≡ marks
+unfolding marksAfter
+nothing-written w n h x marks r =
+    let j : q n - q n ≡ 0 = omega arith in
+    rw j (overwriteAt-none (markWords * (q n + 1)) marks r)
+
+-- so the check leaves the marks
+pub check-leaves : (code n : ℕ) (sheet marks : List ℕ) → markWords * (q n + 1) ≤ length marks → worked code n sheet marks (q n) .marks ≡ marks
+unfolding worked
+check-leaves code n sheet marks r = nothing-written _ n _ _ marks r
 
 -- a digest has the length that its code names, whatever the marks
 pub length-digest : (code n m : ℕ) (sheet marks : List ℕ) → length (worked code n sheet marks m .digest) ≡ bytesAt code

@@ -38,9 +38,9 @@ unfoldable pub fullRefusal : (n sheetLength marksLength : ℕ) → Refusal
 fullRefusal n sheetLength marksLength =
     (FULL, eqb n most || ltb sheetLength (recordBytes * (n + 1)) || ltb marksLength (markWords * (q (n + 1) + 1)))
 
--- 9: "the new record isn't 40 bytes"
-unfoldable pub sizeRefusal : (recordLength : ℕ) → Refusal
-sizeRefusal recordLength = (SIZE, not (eqb recordLength recordBytes))
+-- 9: "the new record isn't 40 bytes", and of several "unless the new records are 40 bytes for each place"
+unfoldable pub sizeRefusal : (records recordsLength : ℕ) → Refusal
+sizeRefusal records recordsLength = (SIZE, not (eqb recordsLength (recordBytes * records)))
 
 -- 10: "the claimed digest hasn't exactly the digest's length", which is so many bytes
 unfoldable pub claimRefusal : (bytes claimLength : ℕ) → Refusal
@@ -57,12 +57,12 @@ buildRefusals l =
 
 unfoldable pub changeRefusals : Lengths → (place recordLength claimLength : ℕ) → List Refusal
 changeRefusals l place recordLength claimLength =
-    buildRefusals l ++ placeRefusal (l .n) place ∷ sizeRefusal recordLength ∷ claimRefusal (bytesAt (l .code)) claimLength ∷ []
+    buildRefusals l ++ placeRefusal (l .n) place ∷ sizeRefusal 1 recordLength ∷ claimRefusal (bytesAt (l .code)) claimLength ∷ []
 
 unfoldable pub appendRefusals : Lengths → (recordLength claimLength : ℕ) → List Refusal
 appendRefusals l recordLength claimLength =
     buildRefusals l
-    ++ fullRefusal (l .n) (l .sheetLength) (l .marksLength) ∷ sizeRefusal recordLength ∷ claimRefusal (bytesAt (l .code)) claimLength ∷ []
+    ++ fullRefusal (l .n) (l .sheetLength) (l .marksLength) ∷ sizeRefusal 1 recordLength ∷ claimRefusal (bytesAt (l .code)) claimLength ∷ []
 
 unfoldable pub dropRefusals : Lengths → (claimLength : ℕ) → List Refusal
 dropRefusals l claimLength = buildRefusals l ++ placeRefusal (l .n) 0 ∷ claimRefusal (bytesAt (l .code)) claimLength ∷ []

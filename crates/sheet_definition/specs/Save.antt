@@ -32,13 +32,14 @@ doneWith n sheet k before out =
     }
 
 -- what a save makes of a sheet: records first to past - 1 are all that it touches, and the sheet and its count afterwards are these; its work
--- starts from the mark of the group of the first, with the marks as these are
+-- starts from the mark of the group of the first, with the marks as these are. Where it works on nothing, the check was its work
 pub record Edit : Type 0 where
   pub first : ℕ
   pub past : ℕ
   pub count : ℕ
   pub sheet : List ℕ
   pub marks : List ℕ
+  pub works : Bool
 
 -- a save: the refusals of its arguments in their order, the digest claimed, the number that answers a stale claim, its edit, and the buffer for
 -- the digest
@@ -61,15 +62,19 @@ staleClaim w claim = not (same claim (checked w .digest))
 unfoldable pub reworked : World → Edit → Worked
 reworked w e = worked (w .code) (e .count) (e .sheet) (e .marks) (q (e .first))
 
+-- the rounds that were run before the work: those of the check, where they aren't the work's own
+unfoldable pub roundsBefore : World → Edit → ℕ
+roundsBefore w e = pick (e .works) (checked w .rounds) 0
+
 -- refused by its arguments, with "0 rounds"; stale, which "reports r + 1 + F"; or done, after the check
 unfoldable pub saveOutcome : World → Save → SheetOutcome
 saveOutcome w s =
     whenDone (firstOf (s .refusals))
     (pick (staleClaim w (s .claim))
     (refusedWith w (s .out) (s .staleNumber) (checked w .rounds))
-    (doneWith (s .edit .count) (s .edit .sheet) (reworked w (s .edit)) (checked w .rounds) (s .out)))
+    (doneWith (s .edit .count) (s .edit .sheet) (reworked w (s .edit)) (roundsBefore w (s .edit)) (s .out)))
     (refusedWith w (s .out) (firstOf (s .refusals)) 0)
 
 -- the rounds of a save that is done: those of the check, and those from the mark used to the new end
 unfoldable pub saveRounds : World → Edit → ℕ
-saveRounds w e = checkRounds (w .code) (w .n) + roundsFrom (w .code) (e .count) (q (e .first))
+saveRounds w e = pick (e .works) (checkRounds (w .code) (w .n)) 0 + roundsFrom (w .code) (e .count) (q (e .first))

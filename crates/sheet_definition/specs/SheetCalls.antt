@@ -1,5 +1,6 @@
 -- The sheet calls: document 01, "Sheet and marks". Build, and the kinds of save, each by its refusals and its edit.
 use Prim.Native.Nat.{ℕ, _+_, _-_, _*_}
+use mathlib.Core.Bool.{true}
 use mathlib.Core.List.{List}
 use lib.Dec.{eqb}
 use lib.ListN.{length, replicate}
@@ -50,6 +51,7 @@ oneRecord w place x count marks =
       count = count;
       sheet = overwriteAt (recordBytes * place) x (w .sheet);
       marks = marks;
+      works = true;
     }
 
 -- "When r = 0 it zeroes mark q."

@@ -40,11 +40,14 @@ fn one_more(n: usize, sheet: usize, marks: usize) -> u32
     )
 }
 
-// 9: whether the new record has 40 bytes.
-fn record_size(record: usize) -> u32
-    ensures { λ r. ⌜ r ≡ firstOf (sizeRefusal «record» ∷ []) ⌝ }
+// 9: whether there are 40 bytes for each new record. Lengths are divided, so that nothing wraps.
+fn records_size(count: usize, records: usize) -> u32
+    ensures { λ r. ⌜ r ≡ firstOf (sizeRefusal count «records» ∷ []) ⌝ }
 {
-    refusals::when(record != RECORD, refusals::SIZE)
+    refusals::when(
+        (records / RECORD != count) | (records % RECORD != 0),
+        refusals::SIZE,
+    )
 }
 
 // 10: whether the claim has the digest's bytes.
@@ -65,11 +68,11 @@ pub fn build(code: usize, sheet: usize, n: usize, marks: usize, out: usize) -> u
     refusals::first(one, refusals::first(two, refusals::first(five, six)))
 }
 
-// A save's own refusal, then those of the record and of the claim.
-fn sized(own: u32, code: usize, record: usize, claim: usize) -> u32
-    ensures { λ r. ⌜ r ≡ whenDone own (firstOf (sizeRefusal «record» ∷ claimRefusal (bytesAt code) claim ∷ [])) own ⌝ }
+// A save's own refusal, then those of the new records, so many, and of the claim.
+pub fn sized(own: u32, code: usize, count: usize, records: usize, claim: usize) -> u32
+    ensures { λ r. ⌜ r ≡ whenDone own (firstOf (sizeRefusal count «records» ∷ claimRefusal (bytesAt code) claim ∷ [])) own ⌝ }
 {
-    let sizes = refusals::first(record_size(record), claim_size(code, claim));
+    let sizes = refusals::first(records_size(count, records), claim_size(code, claim));
     refusals::first(own, sizes)
 }
 
@@ -85,7 +88,7 @@ pub fn change(
 ) -> u32
     ensures { λ r. ⌜ r ≡ firstOf (changeRefusals (record { code = code; n = n; sheetLength = sheet; marksLength = marks; outLength = out }) place «record» claim) ⌝ }
 {
-    let own = sized(has_place(n, place), code, record, claim);
+    let own = sized(has_place(n, place), code, 1, record, claim);
     refusals::first(build(code, sheet, n, marks, out), own)
 }
 
@@ -100,7 +103,7 @@ pub fn append(
 ) -> u32
     ensures { λ r. ⌜ r ≡ firstOf (appendRefusals (record { code = code; n = n; sheetLength = sheet; marksLength = marks; outLength = out }) «record» claim) ⌝ }
 {
-    let own = sized(one_more(n, sheet, marks), code, record, claim);
+    let own = sized(one_more(n, sheet, marks), code, 1, record, claim);
     refusals::first(build(code, sheet, n, marks, out), own)
 }
 

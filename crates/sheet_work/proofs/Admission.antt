@@ -4,9 +4,11 @@ use mathlib.Core.Path.{_≡_, refl, sym, ap, _∙_}
 use mathlib.Core.Bool.{Bool, true, false}
 use Prim.Native.Nat.{ℕ, zero, suc}
 use native.Mathlib.Omega.{arith}
+use borrow.Author.Tests.{not-false}
 use Rattle.definition.specs.Refusal.{STALE, pick, firstOf, whenDone}
 use Rattle.sheet_definition.specs.Sheet.{World}
 use Rattle.sheet_definition.specs.Save.{refusedWith, Save, checked, staleClaim, saveOutcome}
+use Rattle.sheet_definition.proofs.Writes.{same-eq}
 use Rattle.sheet_definition.proofs.Outcomes.{accepted, refused-is, stale-is, done-is}
 use Rattle.sheet_work.specs.declared.Admitted.{Admitted}
 use Rattle.sheet_work.specs.Admission.{admission}
@@ -35,3 +37,10 @@ module _ (w : World) (s : Save) (number : s .staleNumber ≡ STALE) {k : ℕ} (e
   goes-on =
       by-way (λ a. a .number ≡ 0 → (k ≡ 0) × ((a .rounds ≡ checked w .rounds) × (accepted w s ≡ saveOutcome w s)))
       (λ h i. absurd (h i)) (λ z t i. absurd (omega arith)) (λ z t i. (z, (refl, done-is w s e z t)))
+
+  -- where the claim is the digest held
+  pub fresh : a .number ≡ 0 → s .claim ≡ checked w .digest
+  unfolding staleClaim
+  fresh =
+      by-way (λ a. a .number ≡ 0 → s .claim ≡ checked w .digest)
+      (λ h i. absurd (h i)) (λ z t i. absurd (omega arith)) (λ z t i. same-eq (s .claim) (checked w .digest) (not-false _ t))

@@ -10,12 +10,11 @@ use Rattle.definition.specs.declared.Block.{Block}
 use Rattle.definition.specs.declared.Counted.{Counted}
 use Rattle.definition.specs.declared.State.{State}
 use Rattle.definition.specs.declared.Width.{Width}
-use Rattle.definition.specs.declared.Width.the-variants.{W3, W4, W5}
 use Rattle.definition.specs.Word.{bytesOfAll}
 use Rattle.definition.specs.Block.{zeroBlock, wordsOfAll}
 use Rattle.definition.specs.Round.{chain}
 use Rattle.definition.specs.Padding.{closing, padded, blocks}
-use Rattle.definition.specs.Width.{blockCount, widthAt}
+use Rattle.definition.specs.Width.{widthAt}
 use Rattle.definition.specs.State.{five, blocksIn, stateOf}
 use Rattle.definition.specs.Final.{final, finalRounds}
 use Rattle.definition.specs.Counted.{countedChain}
@@ -23,13 +22,13 @@ use Rattle.definition.specs.Luffa.{wordsAt, bytesAt, outputOf}
 use Rattle.definition.specs.Buffer.{overwriteAt, overwrite}
 use Rattle.sheet_definition.specs.Sheet.{most, recordBytes, groupBytes, markWords, q}
 use Rattle.sheet_definition.specs.Marks.{held, markAt, stateFrom, markOf, marksAfter, roundsAfter, worked}
-use Rattle.definition.proofs.Buffer.{overwriteAt-more, overwriteAt-none}
+use Rattle.definition.proofs.Buffer.{overwriteAt-more}
 use Rattle.definition.proofs.Chain.{blocks-of-state, counted-append, counted-state, counted-blocks, counted-rounds}
 use Rattle.definition.proofs.Codes.{words-le}
 use Rattle.definition.proofs.Padding.{blocks-append}
 use Rattle.definition.proofs.BitStrings.{digest-bytes}
-use Rattle.sheet_definition.proofs.Writes.{drop-take}
-use Rattle.sheet_definition.proofs.Marks.{padded-append, padded-blocks, length-mark}
+use Rattle.sheet_definition.proofs.Writes.{drop-take, nothing-written}
+use Rattle.sheet_definition.proofs.Marks.{padded-append, padded-blocks, length-state, length-mark}
 use Rattle.squeeze.proofs.Room.{all-words, squeezed-out}
 
 -- the records held from place i on, where they lie in the sheet
@@ -84,26 +83,6 @@ group-on w n k c d sheet marks marks' h l r e f =
     (rw (y, b, m, j)
     (overwriteAt-more (markWords * (k + 1)) (markWords * (k + 1 + 1)) (markOf h') (marksAfter w (q n - (k + 1)) h' (drop groupBytes x)) marks (omega arith) (omega (arith, length-mark h'))))
     (rw (y, g) (rounds-step w c x s))
-
--- from the last mark on no mark is written
-nothing-written : (w : Width) (n : ℕ) (h : List Block) (x marks : List ℕ) → markWords * (q n + 1) ≤ length marks
-    → overwriteAt (markWords * (q n + 1)) (marksAfter w (q n - q n) h x) marks ≡ marks
-unfolding marksAfter
-nothing-written w n h x marks r =
-    let j : q n - q n ≡ 0 = omega arith in
-    rw j (overwriteAt-none (markWords * (q n + 1)) marks r)
-
--- so the check leaves the marks
-pub check-leaves : (code n : ℕ) (sheet marks : List ℕ) → markWords * (q n + 1) ≤ length marks → worked code n sheet marks (q n) .marks ≡ marks
-unfolding worked
-check-leaves code n sheet marks r = nothing-written _ n _ _ marks r
-
--- a mark's state is that of its used blocks
-length-state : (w : Width) (ws : List ℕ) → length (stateFrom w ws) ≡ blockCount w
-unfolding stateFrom blockCount
-length-state W3 ws = refl
-length-state W4 ws = refl
-length-state W5 ws = refl
 
 -- few bytes and few rounds before them: no count wraps
 no-wrap : (code before bytes a k z : ℕ) → before < 2 ^ 32 → a ≡ (before + k) % 2 ^ 64 → z ≡ finalRounds (wordsAt code) → k ≡ bytes / 32 + 1

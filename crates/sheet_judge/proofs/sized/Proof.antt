@@ -13,7 +13,7 @@ unfolding sizeRefusal
 returns c =
     let s = c .before in
     let k = s .before in
-    c .first2 .ensures ∙ rw (then-judged (_ ∷ []) (_ ∷ []) (omega arith) (s .first .ensures) (k .before .record-size .ensures) (k .claim-size .ensures))
+    c .first2 .ensures ∙ rw (then-judged (_ ∷ []) (_ ∷ []) (omega arith) (s .first .ensures) (k .before .records-size .ensures) (k .claim-size .ensures))
 
 pub sized-spec : {M : Type 1} → statement M
 sized-spec = tie.close (tie.spec (λ c κs. tt) (λ c κs. tt) (λ c κs. tt) (λ c κs. tt) returns)

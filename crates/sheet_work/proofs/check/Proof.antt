@@ -13,8 +13,8 @@ use Rattle.definition.specs.Buffer.{same}
 use Rattle.sheet_definition.specs.Sheet.{q}
 use Rattle.sheet_definition.specs.Save.{checked, staleClaim}
 use Rattle.definition.proofs.Codes.{words-le}
+use Rattle.sheet_definition.proofs.Writes.{check-leaves}
 use Rattle.sheet_work.proofs.Claims.{in-front, compared}
-use Rattle.sheet_work.proofs.Groups.{check-leaves}
 use Rattle.sheet_work.proofs.check.Statement.{statement}
 use Rattle.sheet_work.proofs.check.Tie as tie
 
