@@ -59,7 +59,7 @@ unfolding luffa luffaOfBits luffaOutput outputOfBits bytesAt
 length-luffa code m = length-output code (wordsAt code) _
 
 -- the arguments of a change are valid where a build's are, at a place of the sheet, with a record and a claim of the right length
-change-valid : (w : World) (place : ℕ) (x claim out : List ℕ) → firstOf (buildRefusals (lengthsOf w out)) ≡ 0 → place < w .n
+pub change-valid : (w : World) (place : ℕ) (x claim out : List ℕ) → firstOf (buildRefusals (lengthsOf w out)) ≡ 0 → place < w .n
     → length x ≡ recordBytes → length claim ≡ bytesAt (w .code) → firstOf (saveOf w (changing place x claim out) .refusals) ≡ 0
 unfolding saveOf refusalsOf changeRefusals firstOf pick placeRefusal sizeRefusal claimRefusal
 change-valid w place x claim out b h n k =

@@ -3,7 +3,7 @@
 use mathlib.Core.List.{List}
 use Prim.Native.Nat.{ℕ}
 use Rattle.definition.proofs.Determined.{Determined, determined}
-use Rattle.sheet_definition.specs.SheetCalls.{buildOutcome, changeOutcome, appendOutcome, dropOutcome}
+use Rattle.sheet_definition.specs.SheetCalls.{buildOutcome, changeOutcome, appendOutcome, dropOutcome, batchOutcome}
 
 pub build-determined : (code : ℕ) (sheet : List ℕ) (n : ℕ) (marks out : List ℕ) → Determined (buildOutcome code sheet n marks out)
 build-determined code sheet n marks out = determined (buildOutcome code sheet n marks out)
@@ -18,3 +18,7 @@ append-determined code sheet n marks x claim out = determined (appendOutcome cod
 
 pub drop-determined : (code : ℕ) (sheet : List ℕ) (n : ℕ) (marks claim out : List ℕ) → Determined (dropOutcome code sheet n marks claim out)
 drop-determined code sheet n marks claim out = determined (dropOutcome code sheet n marks claim out)
+
+pub batch-determined : (code : ℕ) (sheet : List ℕ) (n : ℕ) (marks places x claim out : List ℕ)
+    → Determined (batchOutcome code sheet n marks places x claim out)
+batch-determined code sheet n marks places x claim out = determined (batchOutcome code sheet n marks places x claim out)

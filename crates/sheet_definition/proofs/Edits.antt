@@ -1,30 +1,31 @@
 -- Each kind of save is proper, and makes of the plain list of records what document 01 says.
 -- Assumes nothing.
 use mathlib.Core.Path.{_≡_, refl, sym, _∙_}
+use mathlib.Core.Bool.{true}
 use mathlib.Core.List.{List, [], _∷_, append-nil}
 use Prim.Native.Nat.{ℕ, _+_, _-_, _*_, _<_, _≤_}
 use native.Mathlib.Decide.{ℕ-discrete}
 use native.Mathlib.Omega.{arith}
-use lib.ListN.{length, replicate, length-append, length-set, length-replicate}
+use lib.ListN.{length, replicate, length-append, length-replicate}
 use lib.Seq.{length-take-le, take-take}
 use borrow.Author.Tests.{eq-eqb, ne-eqb}
 use Rattle.definition.specs.Luffa.{bytesAt}
 use Rattle.definition.specs.Buffer.{Every, overwriteAt, joined}
-use Rattle.definition.specs.Refusal.{Refusal, PLACE, FULL, SIZE, CLAIM, pick, firstOf, conditionOf}
+use Rattle.definition.specs.Refusal.{Refusal, PLACE, FULL, SIZE, CLAIM, SET, pick, firstOf, conditionOf, rising}
 use Rattle.sheet_definition.specs.Sheet.{World, recordBytes, markWords, q, r}
-use Rattle.sheet_definition.specs.Refusals.{lengthsOf, claimRefusal}
+use Rattle.sheet_definition.specs.Refusals.{lengthsOf, claimRefusal, mostChanges}
 use Rattle.sheet_definition.specs.Marks.{held, markAt}
-use Rattle.sheet_definition.specs.Save.{Edit}
-use Rattle.sheet_definition.specs.SheetCalls.{Kind, Call, refusalsOf, oneRecord, withoutLast, editOf, saveOf}
-use Rattle.sheet_definition.specs.SheetCalls.Kind.{Change, Append, Drop}
+use Rattle.sheet_definition.specs.SheetCalls.{Kind, Call, refusalsOf, oneRecord, withoutLast, lowest, pastHighest, manyRecords, editOf, saveOf}
+use Rattle.sheet_definition.specs.SheetCalls.Kind.{Change, Append, Drop, Batch}
 use Rattle.sheet_definition.specs.Run.{listAfter}
-use Rattle.sheet_definition.specs.Said.{Stale, Forty, Stands}
+use Rattle.sheet_definition.specs.Said.{Stale, Stands}
 use Rattle.definition.proofs.Every.{every-take, every-append}
 use Rattle.definition.proofs.Buffer.{length-overwriteAt, take-overwriteAt, drop-overwriteAt}
 use Rattle.definition.proofs.Refusals.{Numbered, fails}
 use Rattle.sheet_definition.proofs.Joined.{Listed, listed-by, listed-set, joined-append, joined-take, take-added}
+use Rattle.sheet_definition.proofs.Many.{Below, none-past, within, lowest-held, highest-held, kept, listed-in-turn}
 use Rattle.sheet_definition.proofs.Writes.{Rewritten}
-use Rattle.sheet_definition.proofs.Refused.{Fits, fits, place-held, one-more, records-sized, claim-sized, judging}
+use Rattle.sheet_definition.proofs.Refused.{Fits, fits, place-held, one-more, set-rises, records-sized, claim-sized, judging}
 use Rattle.sheet_definition.proofs.Fair.{Fair, Proper, read-written, one-fair}
 
 -- "When r = 0 it zeroes mark q.", and else none
@@ -67,24 +68,28 @@ module _ (w : World) (c : Call) where
   numbered (Change place x) = omega arith
   numbered (Append x) = omega arith
   numbered Drop = omega arith
+  numbered (Batch places x) = omega arith
 
   earlier : (k : Kind) → Every (λ x. Stale (x .0) → ⊥) (refusals k)
   unfolding judging
   earlier (Change place x) = omega arith
   earlier (Append x) = omega arith
   earlier Drop = omega arith
+  earlier (Batch places x) = omega arith
 
   pub room : (k : Kind) → firstOf (refusals k) ≡ 0 → Fits w (c .out)
   unfolding judging
   room (Change place x) e = fits w (c .out) _ (numbered (Change place x)) e
   room (Append x) e = fits w (c .out) _ (numbered (Append x)) e
   room Drop e = fits w (c .out) _ (numbered Drop) e
+  room (Batch places x) e = fits w (c .out) _ (numbered (Batch places x)) e
 
   claimed : (k : Kind) → conditionOf CLAIM (refusals k) ≡ claimRefusal (bytesAt (w .code)) (length (c .claim)) .1
   unfolding judging
   claimed (Change place x) = refl
   claimed (Append x) = refl
   claimed Drop = refl
+  claimed (Batch places x) = refl
 
   -- a new record has its size
   module _ (x : List ℕ) where
@@ -96,8 +101,27 @@ module _ (w : World) (c : Call) where
     unfolding judging
     append-size e = records-sized 1 (length x) (fails (refusals (Append x)) (numbered (Append x)) e SIZE)
 
+  -- a batch's places rise and are the sheet's, and there is a record for each
+  pub record Many (places x : List ℕ) : Type 0 where
+    pub few : length places ≤ mostChanges
+    pub rise : rising places ≡ true
+    pub below : Below (w .n) places
+    pub sizes : length x ≡ recordBytes * length places
+
+  pub many : (places x : List ℕ) → firstOf (refusals (Batch places x)) ≡ 0 → Many places x
+  unfolding judging
+  many places x e =
+      let none = fails (refusals (Batch places x)) (numbered (Batch places x)) e in
+      let s = set-rises places (none SET) in
+      record {
+        few = s .0;
+        rise = s .1;
+        below = none-past (w .n) places (none PLACE);
+        sizes = records-sized (length places) (length x) (none SIZE);
+      }
+
   pub fair : (k : Kind) → firstOf (refusals k) ≡ 0 → Fair w (editOf w k)
-  unfolding judging editOf
+  unfolding judging editOf manyRecords
   fair (Change place x) e =
       let none = fails (refusals (Change place x)) (numbered (Change place x)) e in
       let f : Fits w (c .out) = room (Change place x) e in
@@ -121,6 +145,25 @@ module _ (w : World) (c : Call) where
       (omega (arith, f .count)) (omega (arith, f .sheet-room)) (unfold q in omega (arith, f .marks-room)) (m .0)
       (λ k i j. let n : k ≡ w .n - 1 = omega arith in rw n (read-written (recordBytes * (w .n - 1)) recordBytes z (w .sheet) s (omega (arith, f .sheet-room))))
       (m .1)
+  fair (Batch places x) e =
+      let f : Fits w (c .out) = room (Batch places x) e in
+      let m : Many places x = many places x e in
+      let h : pastHighest (w .n) places ≤ w .n = highest-held (w .n) (w .n) places (omega arith) (m .below) in
+      let k = kept (lowest (w .n) places) (pastHighest (w .n) places) places x (w .sheet) (within (w .n) places (m .rise)) (omega (arith, f .sheet-room)) (m .sizes) in
+      record {
+        sheet-size = k .size;
+        before = k .before;
+        behind = k .behind;
+        first-held = lowest-held (w .n) places (m .below);
+        first-left = lowest-held (w .n) places (m .below);
+        past-held = omega arith;
+        few = f .count;
+        new-sheet-room = f .sheet-room;
+        new-marks-room = f .marks-room;
+        marks = search;
+        bytes-freed = λ k i j. absurd (omega arith);
+        words-freed = λ m i j. absurd (omega arith);
+      }
 
   pub proper : Proper w (saveOf w c)
   unfolding saveOf
@@ -136,7 +179,7 @@ module _ (w : World) (c : Call) where
 
   -- what a save that is done makes of the list is what its sheet holds
   pub listed : (k : Kind) (rs : List (List ℕ)) → Stands w rs → firstOf (refusals k) ≡ 0 → Listed (editOf w k .count) (editOf w k .sheet) (listAfter k rs)
-  unfolding judging editOf oneRecord listAfter held joined
+  unfolding judging editOf oneRecord manyRecords listAfter held joined
   listed (Change place x) rs s e =
       listed-set (w .n) place x (w .sheet) rs (change-size x place e)
       (place-held (w .n) place (fails (refusals (Change place x)) (numbered (Change place x)) e PLACE)) (s .sheet-room) (listed-by w rs s)
@@ -165,3 +208,6 @@ module _ (w : World) (c : Call) where
           n,
         );
       }
+  listed (Batch places x) rs s e =
+      let m : Many places x = many places x e in
+      listed-in-turn (w .n) places x (w .sheet) rs (m .below) (m .sizes) (s .sheet-room) (listed-by w rs s)

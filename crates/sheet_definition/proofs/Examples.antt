@@ -74,11 +74,11 @@ pub record Table : Type 0 where
   pub drop-4-mark : (sheet marks claim out : List ℕ) → dropOutcome 2 sheet 4 marks claim out .answer .number ≡ 0
       → markAt (dropOutcome 2 sheet 4 marks claim out .marks) 1 ≡ replicate markWords 0
 
-abbrev at : (code n : ℕ) → (sheet marks : List ℕ) → World
+abbrev pub at : (code n : ℕ) → (sheet marks : List ℕ) → World
 at code n sheet marks = record { code = code; n = n; sheet = sheet; marks = marks }
 
 -- a save's rounds, computed
-takes : (w : World) (c : Call) (k : ℕ) → saveRounds w (saveOf w c .edit) ≡ k → Takes (call w c .answer) k
+pub takes : (w : World) (c : Call) (k : ℕ) → saveRounds w (saveOf w c .edit) ≡ k → Takes (call w c .answer) k
 unfolding call
 takes w c k h e = save-rounds w (saveOf w c) (proper w c) .when-done e ∙ h
 

@@ -153,7 +153,7 @@ three-built : buildOutcome 2 (replicate 160 0) 3 (replicate 80 0) blank .answer 
 unfolding everything
 three-built = refl
 
-three-stands : Stands three (zeros ∷ zeros ∷ zeros ∷ [])
+pub three-stands : Stands three (zeros ∷ zeros ∷ zeros ∷ [])
 unfolding everything cut
 three-stands = stands-laid three (build-laid 2 (replicate 160 0) 3 (replicate 80 0) blank three-built)
 

@@ -4,6 +4,7 @@ pub mod Sheet
 pub mod Writes
 pub mod Marks
 pub mod Joined
+pub mod Many
 pub mod Outcomes
 pub mod Refused
 pub mod Fair
@@ -14,7 +15,10 @@ pub mod Orders
 pub mod Demand3
 pub mod Rebuilt
 pub mod Claims
+pub mod Again
+pub mod Turns
 pub mod Sentences
 pub mod Examples
 pub mod Instances
+pub mod Evenings
 pub mod Determined

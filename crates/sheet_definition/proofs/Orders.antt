@@ -1,17 +1,17 @@
--- The order of each call's refusals is that of document 01: rising; a number is given exactly when it is the first of them whose condition holds,
+-- The order of each call's refusals is that of document 01, rising, or of document 02; a number is given exactly when it is the first of them whose condition holds,
 -- and 0 exactly when none does.
 -- Assumes nothing.
 use mathlib.Core.Path.{_≡_, refl}
-use mathlib.Core.Bool.{true}
+use mathlib.Core.Bool.{Bool, true, false}
 use mathlib.Core.List.{List, [], _∷_, _++_}
 use Prim.Native.Nat.{ℕ}
 use native.Mathlib.Omega.{arith}
-use Rattle.definition.specs.Refusal.{Refusal, Judged, WIDTH, OUT, SHEET, MARKS, PLACE, FULL, SIZE, CLAIM, STALE, numbersOf, rising}
+use Rattle.definition.specs.Refusal.{Refusal, Judged, WIDTH, OUT, SHEET, MARKS, PLACE, FULL, SIZE, CLAIM, STALE, SET, numbersOf, rising}
 use Rattle.sheet_definition.specs.Sheet.{World}
 use Rattle.sheet_definition.specs.Refusals.{lengthsOf, buildRefusals}
 use Rattle.sheet_definition.specs.Save.{staleClaim}
 use Rattle.sheet_definition.specs.SheetCalls.{buildOutcome, Kind, Call, saveOf, call}
-use Rattle.sheet_definition.specs.SheetCalls.Kind.{Change, Append, Drop}
+use Rattle.sheet_definition.specs.SheetCalls.Kind.{Change, Append, Drop, Batch}
 use Rattle.definition.proofs.Every.{every-append}
 use Rattle.definition.proofs.Refusals.{judged}
 use Rattle.sheet_definition.proofs.Outcomes.{number-is}
@@ -28,19 +28,28 @@ unfoldable pub orderOf : Kind → List ℕ
 orderOf (Change place x) = WIDTH ∷ OUT ∷ SHEET ∷ MARKS ∷ PLACE ∷ SIZE ∷ CLAIM ∷ STALE ∷ []
 orderOf (Append x) = WIDTH ∷ OUT ∷ SHEET ∷ MARKS ∷ FULL ∷ SIZE ∷ CLAIM ∷ STALE ∷ []
 orderOf Drop = WIDTH ∷ OUT ∷ SHEET ∷ MARKS ∷ PLACE ∷ CLAIM ∷ STALE ∷ []
+orderOf (Batch places x) = WIDTH ∷ OUT ∷ SHEET ∷ MARKS ∷ SET ∷ PLACE ∷ SIZE ∷ CLAIM ∷ STALE ∷ []
 
--- "the lowest number is given"
-pub order-rising : (k : Kind) → rising (orderOf k) ≡ true
-unfolding rising orderOf
+-- "the lowest number is given" of document 01's saves; in a batch 14 comes "after 6", before 7
+unfoldable pub lowestGiven : Kind → Bool
+lowestGiven (Change place x) = true
+lowestGiven (Append x) = true
+lowestGiven Drop = true
+lowestGiven (Batch places x) = false
+
+pub order-rising : (k : Kind) → rising (orderOf k) ≡ lowestGiven k
+unfolding rising orderOf lowestGiven
 order-rising (Change place x) = refl
 order-rising (Append x) = refl
 order-rising Drop = refl
+order-rising (Batch places x) = refl
 
 save-order : (w : World) (c : Call) (k : Kind) → numbersOf (allOf w (record { kind = k; claim = c .claim; out = c .out })) ≡ orderOf k
 unfolding judging saveOf orderOf
 save-order w c (Change place x) = refl
 save-order w c (Append x) = refl
 save-order w c Drop = refl
+save-order w c (Batch places x) = refl
 
 -- so each save is judged by its list, and a build by its own
 pub save-judged : (w : World) (c : Call) → Judged (call w c .answer .number) (allOf w c) (orderOf (c .kind))

@@ -1,7 +1,7 @@
 -- What each refusal leaves where its condition fails: one law for each, and the room that every sheet call has then.
 -- Assumes nothing.
 use mathlib.Core.Path.{_≡_}
-use mathlib.Core.Bool.{true, false}
+use mathlib.Core.Bool.{true, false, not}
 use mathlib.Core.List.{List, [], _++_}
 use Prim.Native.Nat.{ℕ, _+_, _*_, _<_, _≤_}
 use native.Mathlib.Omega.{arith}
@@ -9,9 +9,9 @@ use lib.Dec.{ltb, eqb}
 use lib.ListN.{length}
 use borrow.Author.Tests.{ltb-false, leb-false, eqb-true, eqb-false, not-false}
 use Rattle.definition.specs.Luffa.{bytesAt}
-use Rattle.definition.specs.Refusal.{Refusal, WIDTH, OUT, SHEET, MARKS, pick, firstOf, numbersOf, conditionOf, known, widthRefusal, outRefusal}
+use Rattle.definition.specs.Refusal.{Refusal, WIDTH, OUT, SHEET, MARKS, pick, firstOf, numbersOf, conditionOf, known, rising, widthRefusal, outRefusal}
 use Rattle.sheet_definition.specs.Sheet.{World, most, recordBytes, markWords, q}
-use Rattle.sheet_definition.specs.Refusals.{Lengths, lengthsOf, sheetRefusal, marksRefusal, placeRefusal, fullRefusal, sizeRefusal, claimRefusal, buildRefusals, changeRefusals, appendRefusals, dropRefusals}
+use Rattle.sheet_definition.specs.Refusals.{Lengths, lengthsOf, sheetRefusal, marksRefusal, placeRefusal, fullRefusal, sizeRefusal, claimRefusal, placesRefusal, setRefusal, buildRefusals, changeRefusals, appendRefusals, dropRefusals, batchRefusals, mostChanges}
 use Rattle.sheet_definition.specs.SheetCalls.{refusalsOf}
 use Rattle.definition.proofs.Conditions.{either-false}
 use Rattle.definition.proofs.Refusals.{Numbered, fails}
@@ -37,6 +37,12 @@ marks-fit n marks e = ltb-false marks (markWords * (q n + 1)) e
 pub place-held : (n place : ℕ) → placeRefusal n place .1 ≡ false → place < n
 unfolding placeRefusal
 place-held n place e = leb-false n place e
+
+pub set-rises : (places : List ℕ) → setRefusal places .1 ≡ false → (length places ≤ mostChanges) × (rising places ≡ true)
+unfolding setRefusal
+set-rises places e =
+    let b = either-false (ltb mostChanges (length places)) (not (rising places)) e in
+    (ltb-false mostChanges (length places) (b .0), not-false (rising places) (b .1))
 
 pub one-more : (n sheet marks : ℕ) → fullRefusal n sheet marks .1 ≡ false
     → (n ≡ most → ⊥) × (recordBytes * (n + 1) ≤ sheet) × (markWords * (q (n + 1) + 1) ≤ marks)
@@ -87,5 +93,5 @@ built-fits w out e = fits w out [] (built-numbered (lengthsOf w out)) e
 
 -- the line `unfolding judging` opens the lists of all calls and what is asked of them
 unfoldable pub judging : Unit {0}
-unfolding refusalsOf changeRefusals appendRefusals dropRefusals buildRefusals widthRefusal outRefusal sheetRefusal marksRefusal placeRefusal fullRefusal sizeRefusal claimRefusal numbersOf conditionOf pick
+unfolding refusalsOf changeRefusals appendRefusals dropRefusals batchRefusals buildRefusals widthRefusal outRefusal sheetRefusal marksRefusal placeRefusal placesRefusal setRefusal fullRefusal sizeRefusal claimRefusal numbersOf conditionOf pick
 judging = tt

@@ -6,4 +6,5 @@ pub mod Refusals
 pub mod Save
 pub mod SheetCalls
 pub mod Run
+pub mod Turns
 pub mod Said

@@ -1,12 +1,12 @@
--- The refusals of the sheet calls, 1, 2 and 5 to 10: document 01, "Refusal numbers". They are judged by numbers and by the lengths of the
--- buffers; 11, whether a claim is stale, comes after them.
+-- The refusals of the sheet calls, 1, 2 and 5 to 10: document 01, "Refusal numbers"; and 14: document 02, Q-4. They are judged by numbers and by
+-- the lengths of the buffers; 11, whether a claim is stale, comes after them.
 use Prim.Native.Nat.{ℕ, _+_, _*_}
-use mathlib.Core.Bool.{not, _||_}
+use mathlib.Core.Bool.{Bool, false, not, _||_}
 use mathlib.Core.List.{List, [], _∷_, _++_}
 use lib.Dec.{leb, ltb, eqb}
 use lib.ListN.{length}
 use Rattle.definition.specs.Luffa.{bytesAt}
-use Rattle.definition.specs.Refusal.{Refusal, SHEET, MARKS, PLACE, FULL, SIZE, CLAIM, widthRefusal, outRefusal}
+use Rattle.definition.specs.Refusal.{Refusal, SHEET, MARKS, PLACE, FULL, SIZE, CLAIM, SET, rising, widthRefusal, outRefusal}
 use Rattle.sheet_definition.specs.Sheet.{World, most, recordBytes, markWords, q}
 
 -- what every sheet call is judged by: code, count, and how long the buffers are
@@ -32,6 +32,21 @@ marksRefusal n marksLength = (MARKS, ltb marksLength (markWords * (q n + 1)))
 -- 7: "change at a place of n or more"; "drop at n = 0" is place 0 of no records
 unfoldable pub placeRefusal : (n place : ℕ) → Refusal
 placeRefusal n place = (PLACE, leb n place)
+
+-- and of many changes in one save: "for any place of n or more"
+unfoldable pub anyPast : (n : ℕ) → (places : List ℕ) → Bool
+anyPast n [] = false
+anyPast n (p ∷ ps) = leb n p || anyPast n ps
+
+unfoldable pub placesRefusal : (n : ℕ) → (places : List ℕ) → Refusal
+placesRefusal n places = (PLACE, anyPast n places)
+
+-- 14: "over 64, or places not rising"; "up to 64 changes in a single save", "places strictly rising"
+abbrev pub mostChanges : ℕ
+mostChanges = 64
+
+unfoldable pub setRefusal : (places : List ℕ) → Refusal
+setRefusal places = (SET, ltb mostChanges (length places) || not (rising places))
 
 -- 8: "append at n = 1,024, or with sheet or marks too small for n+1"
 unfoldable pub fullRefusal : (n sheetLength marksLength : ℕ) → Refusal
@@ -66,3 +81,13 @@ appendRefusals l recordLength claimLength =
 
 unfoldable pub dropRefusals : Lengths → (claimLength : ℕ) → List Refusal
 dropRefusals l claimLength = buildRefusals l ++ placeRefusal (l .n) 0 ∷ claimRefusal (bytesAt (l .code)) claimLength ∷ []
+
+-- "14 SET .., after 6; then 7 .., 9 .., 10 and 11 as before."
+unfoldable pub batchRefusals : Lengths → (places : List ℕ) → (recordsLength claimLength : ℕ) → List Refusal
+batchRefusals l places recordsLength claimLength =
+    buildRefusals l
+    ++ setRefusal places
+    ∷ placesRefusal (l .n) places
+    ∷ sizeRefusal (length places) recordsLength
+    ∷ claimRefusal (bytesAt (l .code)) claimLength
+    ∷ []

@@ -6,7 +6,7 @@ use lib.ListN.{length, take, drop, set}
 use Rattle.sheet_definition.specs.Sheet.{World, recordBytes}
 use Rattle.sheet_definition.specs.Save.{SheetOutcome}
 use Rattle.sheet_definition.specs.SheetCalls.{Kind, Call, call}
-use Rattle.sheet_definition.specs.SheetCalls.Kind.{Change, Append, Drop}
+use Rattle.sheet_definition.specs.SheetCalls.Kind.{Change, Append, Drop, Batch}
 
 -- the world that an outcome leaves
 unfoldable pub left : (code : ℕ) → SheetOutcome → World
@@ -19,11 +19,17 @@ unfoldable pub run : World → List Call → World
 run w [] = w
 run w (c ∷ cs) = run (next w c) cs
 
--- what a save that is done makes of the list of records
+-- the changes of a batch, in turn, on the list of records
+unfoldable pub inTurn : (places records' : List ℕ) → List (List ℕ) → List (List ℕ)
+inTurn [] x rs = rs
+inTurn (p ∷ ps) x rs = inTurn ps (drop recordBytes x) (set rs p (take recordBytes x))
+
+-- what a save that is done makes of the list of records; "Demand 3 reads a batch as its changes in turn"
 unfoldable pub listAfter : Kind → List (List ℕ) → List (List ℕ)
 listAfter (Change place x) rs = set rs place x
 listAfter (Append x) rs = rs ++ x ∷ []
 listAfter Drop rs = take (length rs - 1) rs
+listAfter (Batch places x) rs = inTurn places x rs
 
 -- and what one that is answered by a number does
 unfoldable pub applied : (number : ℕ) → List (List ℕ) → Call → List (List ℕ)

@@ -1,15 +1,15 @@
--- The sheet calls: document 01, "Sheet and marks". Build, and the kinds of save, each by its refusals and its edit.
+-- The sheet calls: document 01, "Sheet and marks", and document 02, Q-4. Build, and the kinds of save, each by its refusals and its edit.
 use Prim.Native.Nat.{ℕ, _+_, _-_, _*_}
-use mathlib.Core.Bool.{true}
-use mathlib.Core.List.{List}
+use mathlib.Core.Bool.{Bool, true, false}
+use mathlib.Core.List.{List, [], _∷_}
 use lib.Dec.{eqb}
-use lib.ListN.{length, replicate}
+use lib.ListN.{length, take, drop, replicate}
 use Rattle.definition.specs.Start.{start}
 use Rattle.definition.specs.Width.{widthAt}
 use Rattle.definition.specs.Buffer.{overwriteAt, overwrite}
 use Rattle.definition.specs.Refusal.{Refusal, STALE, pick, firstOf, whenDone}
 use Rattle.sheet_definition.specs.Sheet.{World, recordBytes, markWords, q, r}
-use Rattle.sheet_definition.specs.Refusals.{Lengths, lengthsOf, buildRefusals, changeRefusals, appendRefusals, dropRefusals}
+use Rattle.sheet_definition.specs.Refusals.{Lengths, lengthsOf, buildRefusals, changeRefusals, appendRefusals, dropRefusals, batchRefusals}
 use Rattle.sheet_definition.specs.Marks.{markOf, worked}
 use Rattle.sheet_definition.specs.Save.{SheetOutcome, refusedWith, doneWith, Edit, Save, saveOutcome}
 
@@ -31,6 +31,8 @@ pub data Kind : Type 0 where
   Change : (place : ℕ) → (record' : List ℕ) → Kind
   Append : (record' : List ℕ) → Kind
   Drop : Kind
+  -- many changes: their places, and the new records one after the other
+  Batch : (places records' : List ℕ) → Kind
 
 pub record Call : Type 0 where
   pub kind : Kind
@@ -41,6 +43,7 @@ unfoldable pub refusalsOf : Lengths → (claimLength : ℕ) → Kind → List Re
 refusalsOf l k (Change place x) = changeRefusals l place (length x) k
 refusalsOf l k (Append x) = appendRefusals l (length x) k
 refusalsOf l k Drop = dropRefusals l k
+refusalsOf l k (Batch places x) = batchRefusals l places (length x) k
 
 -- one record written at a place
 unfoldable pub oneRecord : World → (place : ℕ) → (record' : List ℕ) → (count : ℕ) → (marks : List ℕ) → Edit
@@ -58,11 +61,42 @@ oneRecord w place x count marks =
 unfoldable pub withoutLast : (n : ℕ) → (marks : List ℕ) → List ℕ
 withoutLast n marks = pick (eqb (r n) 0) (overwriteAt (markWords * q n) (replicate markWords 0) marks) marks
 
+-- a batch: the new records written at their places, the lowest place, that past the highest, and whether there is one; where there is none both
+-- are the end of the sheet
+unfoldable pub writtenAt : (places records' sheet : List ℕ) → List ℕ
+writtenAt [] x sheet = sheet
+writtenAt (p ∷ ps) x sheet = writtenAt ps (drop recordBytes x) (overwriteAt (recordBytes * p) (take recordBytes x) sheet)
+
+unfoldable pub lowest : (n : ℕ) → (places : List ℕ) → ℕ
+lowest n [] = n
+lowest n (p ∷ ps) = p
+
+unfoldable pub pastHighest : (n : ℕ) → (places : List ℕ) → ℕ
+pastHighest n [] = n
+pastHighest n (p ∷ ps) = pastHighest (p + 1) ps
+
+unfoldable pub some : (places : List ℕ) → Bool
+some [] = false
+some (p ∷ ps) = true
+
+-- "All are made or none. Work starts at the lowest changed group."; "An empty set only checks the claim"
+unfoldable pub manyRecords : World → (places records' : List ℕ) → Edit
+manyRecords w places x =
+    record {
+      first = lowest (w .n) places;
+      past = pastHighest (w .n) places;
+      count = w .n;
+      sheet = writtenAt places x (w .sheet);
+      marks = w .marks;
+      works = some places;
+    }
+
 -- "Change at place i replaces 40 bytes"; "Append writes record n"; "Drop zeroes the last record's bytes."
 unfoldable pub editOf : World → Kind → Edit
 editOf w (Change place x) = oneRecord w place x (w .n) (w .marks)
 editOf w (Append x) = oneRecord w (w .n) x (w .n + 1) (w .marks)
 editOf w Drop = oneRecord w (w .n - 1) (replicate recordBytes 0) (w .n - 1) (withoutLast (w .n) (w .marks))
+editOf w (Batch places x) = manyRecords w places x
 
 unfoldable pub saveOf : World → Call → Save
 saveOf w c =
@@ -89,3 +123,9 @@ appendOutcome code sheet n marks x claim out = call (lent code sheet n marks) (r
 
 abbrev pub dropOutcome : (code : ℕ) → (sheet : List ℕ) → (n : ℕ) → (marks claim out : List ℕ) → SheetOutcome
 dropOutcome code sheet n marks claim out = call (lent code sheet n marks) (record { kind = Drop; claim = claim; out = out })
+
+abbrev pub batching : (places records' claim out : List ℕ) → Call
+batching places x claim out = record { kind = Batch places x; claim = claim; out = out }
+
+abbrev pub batchOutcome : (code : ℕ) → (sheet : List ℕ) → (n : ℕ) → (marks places records' claim out : List ℕ) → SheetOutcome
+batchOutcome code sheet n marks places x claim out = call (lent code sheet n marks) (batching places x claim out)
