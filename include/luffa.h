@@ -10,7 +10,7 @@
  * The caller's duties, which no call can judge:
  *   - Each pointer is valid for the length that follows it: for reading, and for writing too unless
  *     it points to const. Where the length is 0 the pointer may be null. Lengths are in bytes, those
- *     of marks, counts, intake and spare in elements.
+ *     of marks, places, counts, intake and spare in elements.
  *   - A buffer lent for writing overlaps no other buffer of the same call. So a claim isn't lent as
  *     the output buffer too.
  *   - Until the call returns, nobody else writes to a lent buffer or reads one lent for writing.
@@ -53,6 +53,8 @@ extern "C" {
 #define LUFFA_SIZE 9   /* the new record has another length */
 #define LUFFA_CLAIM 10 /* the claimed digest has another length */
 #define LUFFA_STALE 11 /* the claim isn't the digest of the sheet held */
+/* 14 is given by luffa_sheet_batch. */
+#define LUFFA_SET 14   /* too many changes in one save, or their places don't rise */
 /* 12 is given by the calls for longer output. */
 #define LUFFA_WORDS 12 /* no word is asked for, or more than LUFFA_WORDS_MOST */
 /* 13 and 25 are given by luffa_plan_brine. */
@@ -251,8 +253,9 @@ struct luffa_output_answer luffa_hash_finish_output(const struct luffa_hash *has
  * A save goes like this:
  *   - Open: build, unless marks and digest were kept with the sheet, and hold the digest beside what
  *     the planner sees. Marks that were kept where they may have been spoiled are mended first.
- *   - Save: change, append or drop with that digest as the claim. Where done, sheet and marks are
- *     the new ones, the answer has the new n, and the digest in out is the claim of the next save.
+ *   - Save: change, append, drop or a batch of changes with that digest as the claim. Where done, sheet
+ *     and marks are the new ones, the answer has the new n, and the digest in out is the claim of the
+ *     next save.
  *   - 11 LUFFA_STALE: somebody else has saved since. Nothing was written: open again and look.
  * A claim speaks of content: a sheet that was changed and changed back has its old digest again.
  *
@@ -322,6 +325,28 @@ struct luffa_mend_answer luffa_sheet_mend(size_t code, const uint8_t *sheet, siz
 struct luffa_sheet_answer luffa_sheet_change(size_t code, uint8_t *sheet, size_t sheet_len, size_t n, uint32_t *marks,
                                              size_t marks_len, size_t place, const uint8_t *record, size_t record_len,
                                              const uint8_t *claim, size_t claim_len, uint8_t *out, size_t out_len);
+
+/*
+ * Many changes in one save, all of them or none: puts a record in the place of each of those at `places`,
+ * with one check of the claim and one working on from the lowest changed group, and gives the new digest.
+ * places_len is the number of changes; each place is above the one before it, and the new records stand one
+ * after the other in `records`. It leaves what the changes would one by one, in no more rounds. Where there
+ * is no change the claim is checked, the digest given, and sheet and marks are left as they are.
+ *   1 LUFFA_WIDTH   code isn't 1 to 4
+ *   2 LUFFA_OUT     out_len is less than the digest's bytes at this code
+ *   5 LUFFA_SHEET   n is over LUFFA_SHEET_MOST, or sheet_len is less than 40n
+ *   6 LUFFA_MARKS   marks_len is less than LUFFA_MARKS_FOR(n)
+ *  14 LUFFA_SET     places_len is over LUFFA_CHANGES_MOST, or a place isn't above the one before it
+ *   7 LUFFA_PLACE   a place is n or more
+ *   9 LUFFA_SIZE    records_len isn't LUFFA_SHEET_RECORD_BYTES for each place
+ *  10 LUFFA_CLAIM   claim_len isn't the digest's bytes at this code
+ *  11 LUFFA_STALE   the claim isn't the digest of the sheet held
+ */
+#define LUFFA_CHANGES_MOST 64
+struct luffa_sheet_answer luffa_sheet_batch(size_t code, uint8_t *sheet, size_t sheet_len, size_t n, uint32_t *marks,
+                                            size_t marks_len, const size_t *places, size_t places_len,
+                                            const uint8_t *records, size_t records_len, const uint8_t *claim,
+                                            size_t claim_len, uint8_t *out, size_t out_len);
 
 /*
  * Writes a record after the last, and a mark when it fills a group of four, and gives the new digest.

@@ -5,7 +5,7 @@ ghost use mathlib.Core.Path.{_≡_};
 ghost use Rattle.hash_definition.specs.Calls.{digestBitsOutcome, digestOutcome, startOutcome, feedBitsOutcome, feedOutcome, finishOutcome};
 ghost use Rattle.hash_definition.specs.Lent.{lentStartOutcome, lentFeedBitsOutcome, lentFeedOutcome, lentFinishOutcome};
 ghost use Rattle.hash_definition.specs.Output.{outputBitsOutcome, outputOutcome, finishOutputOutcome, lentFinishOutputOutcome};
-ghost use Rattle.sheet_definition.specs.SheetCalls.{buildOutcome, changeOutcome, appendOutcome, dropOutcome};
+ghost use Rattle.sheet_definition.specs.SheetCalls.{buildOutcome, changeOutcome, appendOutcome, dropOutcome, batchOutcome};
 ghost use Rattle.mend_definition.specs.Mend.{mendOutcome, mendAnswer};
 ghost use Rattle.plan_definition.specs.Check.{verdict, answerOf};
 ghost use Rattle.brine_definition.specs.Statement.{brineOutcome};
@@ -189,6 +189,23 @@ pub extern "C" fn luffa_sheet_change(
     ensures { λ r. ⌜ record { answer = r; sheet = now (sheet .exit); marks = now (marks .exit); out = now (out .exit) } ≡ changeOutcome code (now (sheet .entry)) n (now (marks .entry)) place (now («record» .entry)) (now (claim .entry)) (now (out .entry)) ⌝ }
 {
     sheet::change(code, sheet, n, marks, place, record, claim, out)
+}
+
+// The records at up to 64 places replaced in one save.
+#[no_mangle]
+pub extern "C" fn luffa_sheet_batch(
+    code: usize,
+    sheet: &mut [u8],
+    n: usize,
+    marks: &mut [u32],
+    places: &[usize],
+    records: &[u8],
+    claim: &[u8],
+    out: &mut [u8],
+) -> Answer
+    ensures { λ r. ⌜ record { answer = r; sheet = now (sheet .exit); marks = now (marks .exit); out = now (out .exit) } ≡ batchOutcome code (now (sheet .entry)) n (now (marks .entry)) (now (places .entry)) (now («records» .entry)) (now (claim .entry)) (now (out .entry)) ⌝ }
+{
+    sheet_batch::batch(code, sheet, n, marks, places, records, claim, out)
 }
 
 // A record added at the end.

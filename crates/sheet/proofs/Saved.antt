@@ -2,29 +2,21 @@
 -- Assumes nothing.
 use mathlib.Core.Path.{_≡_, refl, sym, _∙_}
 use mathlib.Core.List.{List}
-use Prim.Native.Nat.{ℕ, zero, suc, _+_, _*_, _^_, _<_, _≤_}
+use Prim.Native.Nat.{ℕ, zero, suc, _+_, _*_}
 use native.Mathlib.Omega.{arith}
 use lib.ListN.{length}
 use Rattle.definition.specs.Start.{start}
 use Rattle.definition.specs.Width.{widthAt}
-use Rattle.definition.specs.Final.{finalRounds}
 use Rattle.definition.specs.Buffer.{overwriteAt, overwrite}
 use Rattle.definition.specs.Refusal.{pick, firstOf, whenDone}
-use Rattle.sheet_definition.specs.Sheet.{World, recordBytes, q, r, F, checkRounds}
+use Rattle.sheet_definition.specs.Sheet.{World, recordBytes, q}
 use Rattle.sheet_definition.specs.Marks.{markOf, worked}
 use Rattle.sheet_definition.specs.Save.{SheetOutcome, doneWith, checked, reworked, roundsBefore, saveOutcome}
 use Rattle.sheet_definition.specs.SheetCalls.{Call, oneRecord, editOf, saveOf, call}
-use Rattle.definition.proofs.Codes.{words-le}
 use Rattle.sheet_definition.proofs.Outcomes.{accepted}
-use Rattle.sheet_definition.proofs.Saves.{check-rounds}
 use Rattle.sheet_definition.proofs.Edits.{proper}
 use Rattle.sheet_marks.specs.Total.{cleared}
 use Rattle.sheet.specs.Save.{Valid, recordSave}
-
--- the check takes few rounds
-pub few-rounds : (w : World) → recordBytes * w .n ≤ length (w .sheet) → checked w .rounds < 2 ^ 32
-unfolding checkRounds F finalRounds r
-few-rounds w l = rw (check-rounds w l) (omega (arith, words-le (w .code)))
 
 -- a save that goes on, from the edit and the work
 pub put-together : (w : World) (number place count : ℕ) (x claim out₀ : List ℕ) (before rounds : ℕ) (sheet marks marks' out : List ℕ)

@@ -2,16 +2,25 @@
 -- Assumes nothing.
 use mathlib.Core.Path.{_≡_, refl, sym, ap, _∙_}
 use mathlib.Core.Bool.{Bool, true, false}
-use Prim.Native.Nat.{ℕ, zero, suc}
+use Prim.Native.Nat.{ℕ, zero, suc, _*_, _^_, _<_, _≤_}
 use native.Mathlib.Omega.{arith}
 use borrow.Author.Tests.{not-false}
+use lib.ListN.{length}
+use Rattle.definition.specs.Final.{finalRounds}
 use Rattle.definition.specs.Refusal.{STALE, pick, firstOf, whenDone}
-use Rattle.sheet_definition.specs.Sheet.{World}
+use Rattle.sheet_definition.specs.Sheet.{World, recordBytes, r, F, checkRounds}
 use Rattle.sheet_definition.specs.Save.{refusedWith, Save, checked, staleClaim, saveOutcome}
+use Rattle.definition.proofs.Codes.{words-le}
 use Rattle.sheet_definition.proofs.Writes.{same-eq}
 use Rattle.sheet_definition.proofs.Outcomes.{accepted, refused-is, stale-is, done-is}
+use Rattle.sheet_definition.proofs.Saves.{check-rounds}
 use Rattle.sheet_work.specs.declared.Admitted.{Admitted}
 use Rattle.sheet_work.specs.Admission.{admission}
+
+-- the check takes few rounds
+pub few-rounds : (w : World) → recordBytes * w .n ≤ length (w .sheet) → checked w .rounds < 2 ^ 32
+unfolding checkRounds F finalRounds r
+few-rounds w l = rw (check-rounds w l) (omega (arith, words-le (w .code)))
 
 -- by the number k of its arguments, where 11 answers a stale claim
 module _ (w : World) (s : Save) (number : s .staleNumber ≡ STALE) {k : ℕ} (e : k ≡ firstOf (s .refusals)) {a : Admitted} (d : a ≡ admission k w (s .claim)) where

@@ -11,9 +11,9 @@ use Rattle.sheet_definition.specs.Save.{refusedWith, Save, checked, saveOutcome
 use Rattle.sheet_definition.proofs.Outcomes.{accepted}
 use Rattle.bytes.proofs.Total.{write-at, length-writeAt}
 use Rattle.sheet_marks.specs.Total.{cleared}
-use Rattle.sheet_work.proofs.Admission.{turned-away, goes-on}
+use Rattle.sheet_work.proofs.Admission.{few-rounds, turned-away, goes-on}
 use Rattle.sheet.specs.Save.{Valid, recordSave}
-use Rattle.sheet.proofs.Saved.{few-rounds, put-together}
+use Rattle.sheet.proofs.Saved.{put-together}
 use Rattle.sheet.proofs.save.Statement.{statement}
 use Rattle.sheet.proofs.save.Tie as tie
 
