@@ -16,6 +16,7 @@ HOLDS(LUFFA_DONE == 0 && LUFFA_WIDTH == 1 && LUFFA_OUT == 2 && LUFFA_RECORD == 3
 HOLDS(LUFFA_SHEET == 5 && LUFFA_MARKS == 6 && LUFFA_PLACE == 7 && LUFFA_FULL == 8 && LUFFA_SIZE == 9);
 HOLDS(LUFFA_CLAIM == 10 && LUFFA_STALE == 11 && LUFFA_BATCH == 13 && LUFFA_LIST == 25 && LUFFA_BATCH_MOST == 64);
 HOLDS(LUFFA_ODD == 17 && LUFFA_WORDS == 12 && LUFFA_WORDS_MOST == 64);
+HOLDS(LUFFA_SET == 14 && LUFFA_CHANGES_MOST == 64);
 HOLDS(LUFFA_SHEET_MOST == 1024 && LUFFA_SHEET_RECORD_BYTES == 40 && LUFFA_MARK_WORDS == 40);
 HOLDS(LUFFA_MARKS_FOR(0) == 40 && LUFFA_MARKS_FOR(3) == 40 && LUFFA_MARKS_FOR(4) == 80);
 HOLDS(LUFFA_MARKS_FOR(LUFFA_SHEET_MOST) == 10280 && LUFFA_MARKS_FOR(1 + 2) == 40);
@@ -72,6 +73,8 @@ static answer (*const append)(size_t, uint8_t *, size_t, size_t, uint32_t *, siz
                               const uint8_t *, size_t, uint8_t *, size_t) = luffa_sheet_append;
 static answer (*const drop)(size_t, uint8_t *, size_t, size_t, uint32_t *, size_t, const uint8_t *, size_t, uint8_t *,
                             size_t) = luffa_sheet_drop;
+static answer (*const batch)(size_t, uint8_t *, size_t, size_t, uint32_t *, size_t, const size_t *, size_t,
+                             const uint8_t *, size_t, const uint8_t *, size_t, uint8_t *, size_t) = luffa_sheet_batch;
 static struct luffa_mend_answer (*const mend)(size_t, const uint8_t *, size_t, size_t, uint32_t *,
                                               size_t) = luffa_sheet_mend;
 static struct luffa_content_answer (*const plan_check)(const uint8_t *, size_t, size_t) = luffa_plan_check;
@@ -104,6 +107,8 @@ int main(void)
            build(LUFFA_512, NULL, 0, 0, marks, LUFFA_MARKS_FOR(0), claim, sizeof claim).rounds != 3 ||
            append(LUFFA_512, sheet, sizeof sheet, 0, marks, LUFFA_MARKS_FOR(0), line, sizeof line, claim, sizeof claim,
                   out, sizeof out).count != 1 ||
+           batch(LUFFA_512, sheet, sizeof sheet, 1, marks, LUFFA_MARKS_FOR(1), counts, 1, line, sizeof line, out,
+                 sizeof out, claim, sizeof claim).rounds != 8 ||
            change(LUFFA_512, sheet, sizeof sheet, 1, marks, LUFFA_MARKS_FOR(1), 1, line, sizeof line, out, sizeof out,
                   claim, sizeof claim).number != LUFFA_PLACE ||
            drop(LUFFA_512, sheet, sizeof sheet, 1, marks, LUFFA_MARKS_FOR(1), out, sizeof out, claim, sizeof claim)

@@ -163,7 +163,7 @@ static void one_bit(size_t code, size_t n)
    zero in one that is. */
 static void unused_words(size_t code, size_t n)
 {
-    for (int call = BUILD; call <= DROP; call++)
+    for (int call = BUILD; call <= BATCH; call++)
         for (size_t place = 0; place < n; place += 3) {
             built_sheet(&s, code, n, 1);
             for (size_t m = 0; m <= n / 4; m++)
@@ -171,17 +171,6 @@ static void unused_words(size_t code, size_t n)
             s.place = place;
             sheet_call(LUFFA_DONE, (enum call)call, &s);
         }
-}
-
-/* The digest that the steps give from a mark as it is found: of a record with its words. */
-static void from_mark(size_t m, size_t n, uint8_t *digest)
-{
-    uint8_t record[LUFFA_RECORD_BYTES] = {(uint8_t)s.code};
-
-    for (size_t i = 0; i < state_bytes[s.code]; i++)
-        record[STATE + i] = (uint8_t)(s.marks[MARK * m + i / 4] >> (24 - 8 * (i % 4)));
-    feed_call(LUFFA_DONE, record, sizeof record, s.sheet + 4 * RECORD * m, RECORD * (n - 4 * m));
-    finish_call(LUFFA_DONE, record, sizeof record, LUFFA_512_BYTES, digest);
 }
 
 /* A false last mark: the digest held is the one that follows from it, the sheet's own is stale. */
@@ -197,9 +186,9 @@ static void false_mark(size_t code, size_t n)
     sheet_call(LUFFA_STALE, APPEND, &s);
     sheet_call(LUFFA_STALE, DROP, &s);
 
-    from_mark(q, n, held);
+    from_mark(&s, q, n, held);
     memcpy(s.sheet + RECORD * n, s.record, RECORD);
-    from_mark(q, n + 1, after);
+    from_mark(&s, q, n + 1, after);
     struct luffa_sheet_answer got =
         luffa_sheet_append(code, s.sheet, s.sheet_len, n, s.marks, s.marks_len, s.record, RECORD, held,
                            digest_bytes[code], s.out, s.out_len);
@@ -214,7 +203,7 @@ static void false_mark(size_t code, size_t n)
     uint8_t old[RECORD];
     memcpy(old, s.sheet + RECORD * s.place, RECORD);
     memcpy(s.sheet + RECORD * s.place, s.record, RECORD);
-    from_mark(s.place / 4, n, after);
+    from_mark(&s, s.place / 4, n, after);
     memcpy(s.sheet + RECORD * s.place, old, RECORD);
     got = luffa_sheet_change(code, s.sheet, s.sheet_len, n, s.marks, s.marks_len, s.place, s.record, RECORD, held,
                              digest_bytes[code], s.out, s.out_len);

@@ -1,6 +1,6 @@
 /* The refusals of the sheet calls: each by itself in every way, and every set of them at once, of
-   which the lowest is given. What is refused changes nothing; sheet_call sees to that. The mender's are in
-   mend.c. */
+   which the first in their order is given. What is refused changes nothing; sheet_call sees to that. The
+   mender's are in mend.c. */
 #include "test.h"
 
 /* The sheet as built, and the one that is spoilt. A refused call leaves the sheet and the marks, so
@@ -15,6 +15,10 @@ static void put_right(void)
 
 static const size_t unknown[] = {0, 5, 256 + 2, ((size_t)1 << 32) + 4, (size_t)1 << 63, SIZE_MAX};
 
+/* All of them in the order in which they are judged; only a batch has 14. */
+static const uint64_t order[] = {LUFFA_WIDTH, LUFFA_OUT,  LUFFA_SHEET, LUFFA_MARKS, LUFFA_SET,
+                                 LUFFA_PLACE, LUFFA_FULL, LUFFA_SIZE,  LUFFA_CLAIM, LUFFA_STALE};
+
 /* Places after the last record, from n on; among them such as are before it once they are cut. */
 static const size_t beyond[] = {
     0, 1, 3, ((size_t)1 << 32) - 1, SIZE_MAX / 40, SIZE_MAX / 40 + 1, (size_t)1 << 63, SIZE_MAX - MOST,
@@ -22,6 +26,20 @@ static const size_t beyond[] = {
 
 static const size_t no_record[] = {0, 1, 39, 41, 80};
 static const size_t no_claim[] = {0, 1, 28, 32, 48, 64, 65};
+
+/* Numbers of changes that no batch has, some of them few once they are cut to 8 bits. */
+static const size_t crowds[] = {CHANGES + 1, CHANGES + 2, 128, 256, 256 + 3};
+
+/* Places that don't rise, though some would once they are cut, taken as signed, or their difference is. */
+static const size_t no_rise[][2] = {
+    {0, 0},
+    {1, 0},
+    {SIZE_MAX, SIZE_MAX},
+    {SIZE_MAX, 0},
+    {(size_t)1 << 63, 1},
+    {(size_t)1 << 32, 1},
+    {((size_t)1 << 32) + 1, 2},
+};
 
 /* In how many ways the built sheet can be refused this. */
 static size_t ways(enum call call, uint64_t number)
@@ -36,8 +54,10 @@ static size_t ways(enum call call, uint64_t number)
         return COUNT_OF(too_many) + (built.n > 0 ? 3 : 1);
     case LUFFA_MARKS:
         return 3;
+    case LUFFA_SET:
+        return COUNT_OF(crowds) + COUNT_OF(no_rise) + 2;
     case LUFFA_PLACE:
-        return call == CHANGE ? COUNT_OF(beyond) : 0;
+        return call == DROP ? 0 : COUNT_OF(beyond);
     case LUFFA_FULL:
         return built.n % 4 == 3 ? 4 : 2;
     case LUFFA_SIZE:
@@ -45,6 +65,30 @@ static size_t ways(enum call call, uint64_t number)
     default:
         return COUNT_OF(no_claim);
     }
+}
+
+/* A batch at one place more, with a record for it; where the records were too few or too many, they stay so. */
+static void add_place(size_t place)
+{
+    s.places[s.places_len++] = place;
+    s.records_len += RECORD;
+}
+
+static void spoil_set(size_t way)
+{
+    if (way < COUNT_OF(crowds)) {
+        while (s.places_len < crowds[way])
+            add_place(s.places_len > 0 ? s.places[s.places_len - 1] + 1 : 0);
+        return;
+    }
+    while (s.places_len < 2)
+        add_place(0);
+    way -= COUNT_OF(crowds);
+    if (way < COUNT_OF(no_rise))
+        memcpy(s.places, no_rise[way], sizeof no_rise[way]);
+    else
+        /* After a place that may be too high itself. */
+        add_place(way % 2 ? s.places[s.places_len - 1] : 0);
 }
 
 static void spoil(uint64_t number, size_t way)
@@ -73,8 +117,14 @@ static void spoil(uint64_t number, size_t way)
     case LUFFA_MARKS:
         s.marks_len = way == 0 ? LUFFA_MARKS_FOR(n) - 1 : way == 1 ? MARK * (n / 4) : 0;
         break;
+    case LUFFA_SET:
+        spoil_set(way);
+        break;
     case LUFFA_PLACE:
         s.place = n + beyond[way];
+        if (s.places_len == 0)
+            add_place(0);
+        s.places[s.places_len - 1] = s.place;
         break;
     case LUFFA_FULL:
         if (way < 2)
@@ -84,6 +134,8 @@ static void spoil(uint64_t number, size_t way)
         break;
     case LUFFA_SIZE:
         s.record_len = no_record[way];
+        /* The last of a batch; where there is none, any bytes are too many. */
+        s.records_len += s.places_len > 0 ? no_record[way] - RECORD : way > 0 ? no_record[way] : RECORD;
         break;
     case LUFFA_CLAIM:
         s.claim_len = no_claim[way] != d ? no_claim[way] : d - 1;
@@ -94,11 +146,12 @@ static void spoil(uint64_t number, size_t way)
 }
 
 /* Sets of refusals, as bits: those that a call has. */
-static const unsigned has[4] = {
+static const unsigned has[5] = {
     [BUILD] = 1 << 1 | 1 << 2 | 1 << 5 | 1 << 6,
     [CHANGE] = 1 << 1 | 1 << 2 | 1 << 5 | 1 << 6 | 1 << 7 | 1 << 9 | 1 << 10 | 1 << 11,
     [APPEND] = 1 << 1 | 1 << 2 | 1 << 5 | 1 << 6 | 1 << 8 | 1 << 9 | 1 << 10 | 1 << 11,
     [DROP] = 1 << 1 | 1 << 2 | 1 << 5 | 1 << 6 | 1 << 7 | 1 << 10 | 1 << 11,
+    [BATCH] = 1 << 1 | 1 << 2 | 1 << 5 | 1 << 6 | 1 << 14 | 1 << 7 | 1 << 9 | 1 << 10 | 1 << 11,
 };
 
 /* What this n is refused whatever else is given: a change or a drop of nothing, an append to a full
@@ -112,37 +165,37 @@ static unsigned always(enum call call)
 
 static void refused(enum call call, unsigned set)
 {
-    uint64_t number = 1;
+    size_t i = 0;
 
     set |= always(call);
-    while (!(set >> number & 1))
-        number++;
-    sheet_call(number, call, &s);
+    while (!(set >> order[i] & 1))
+        i++;
+    sheet_call(order[i], call, &s);
 }
 
 static void alone(enum call call)
 {
-    for (uint64_t number = 1; number <= 11; number++)
-        for (size_t way = 0; has[call] >> number & 1 && way < ways(call, number); way++) {
+    for (size_t i = 0; i < COUNT_OF(order); i++)
+        for (size_t way = 0; has[call] >> order[i] & 1 && way < ways(call, order[i]); way++) {
             put_right();
-            spoil(number, way);
-            refused(call, 1u << number);
+            spoil(order[i], way);
+            refused(call, 1u << order[i]);
         }
 }
 
-/* Every set of refusals, each of them in one of its ways in turn. The higher ones go first: a lower
-   one may give another n or another length, and only the lowest has to hold in the end. */
+/* Every set of refusals, each of them in one of its ways in turn. The later ones go first: an earlier
+   one may give another n or another length, and only the first has to hold in the end. */
 static void together(enum call call)
 {
     static size_t turn;
 
-    for (unsigned set = 1; set < 1u << 12; set++) {
-        if ((set & ~has[call]) != 0 || (set >> 7 & 1 && ways(call, 7) == 0))
+    for (unsigned set = has[call]; set != 0; set = (set - 1) & has[call]) {
+        if (set >> LUFFA_PLACE & 1 && ways(call, LUFFA_PLACE) == 0)
             continue;
         put_right();
-        for (uint64_t number = 11; number >= 1; number--)
-            if (set >> number & 1)
-                spoil(number, turn++ % ways(call, number));
+        for (size_t i = COUNT_OF(order); i-- > 0;)
+            if (set >> order[i] & 1)
+                spoil(order[i], turn++ % ways(call, order[i]));
         refused(call, set);
     }
 }
@@ -152,7 +205,7 @@ static void null_pointers(size_t code)
 {
     uint32_t marks[MARK];
     uint8_t record[RECORD] = {0}, digest[LUFFA_512_BYTES], out[LUFFA_512_BYTES];
-    size_t d = digest_bytes[code];
+    size_t d = digest_bytes[code], place = 0;
 
     check(luffa_sheet_build(code, NULL, 0, 0, marks, MARK, digest, d).number == LUFFA_DONE, "no sheet");
     check(luffa_sheet_build(code, NULL, 0, 0, marks, MARK, NULL, 0).number == LUFFA_OUT, "no output buffer");
@@ -167,6 +220,24 @@ static void null_pointers(size_t code)
               LUFFA_CLAIM,
           "no claim");
     check(luffa_sheet_change(0, NULL, 0, 0, NULL, 0, 0, NULL, 0, NULL, 0, NULL, 0).number == LUFFA_WIDTH, "nothing");
+    check(luffa_sheet_batch(0, NULL, 0, 0, NULL, 0, NULL, 0, NULL, 0, NULL, 0, NULL, 0).number == LUFFA_WIDTH,
+          "nothing");
+    check(luffa_sheet_batch(code, record, RECORD, 1, marks, MARK, &place, 1, NULL, 0, digest, d, out, d).number ==
+              LUFFA_SIZE,
+          "no records");
+    check(luffa_sheet_batch(code, NULL, 0, 0, marks, MARK, NULL, 0, NULL, 0, NULL, 0, out, d).number == LUFFA_CLAIM,
+          "no changes, no claim");
+    check(luffa_sheet_batch(code, NULL, 0, 0, marks, MARK, NULL, 0, NULL, 0, digest, d, out, d).number == LUFFA_DONE &&
+              memcmp(out, digest, d) == 0,
+          "no changes of nothing");
+}
+
+/* Sheets of over a thousand records take longer, and would show no other set. */
+static void all(enum call call)
+{
+    alone(call);
+    if (built.n < 1000 || built.code == 4)
+        together(call);
 }
 
 int main(void)
@@ -177,16 +248,22 @@ int main(void)
         for (size_t i = 0; i < COUNT_OF(counts); i++) {
             built_sheet(&built, code, counts[i], 1);
             s = built;
-            for (int call = BUILD; call <= DROP; call++) {
-                alone((enum call)call);
-                /* Sheets of over a thousand records take longer, and would show no other set. */
-                if (counts[i] < 1000 || code == 4)
-                    together((enum call)call);
-            }
+            for (int call = BUILD; call <= BATCH; call++)
+                all((enum call)call);
             /* And nothing was wrong with the sheet. */
             put_right();
+            sheet_call(LUFFA_DONE, BATCH, &s);
             sheet_call(counts[i] < MOST ? LUFFA_DONE : LUFFA_FULL, APPEND, &s);
             sheet_call(LUFFA_DONE, DROP, &s);
+
+            /* The empty set is held to the same, for each count at one code. */
+            if (i % 4 + 1 != code)
+                continue;
+            batch_of(&built, 0, 0, 0);
+            s = built;
+            all(BATCH);
+            put_right();
+            sheet_call(LUFFA_DONE, BATCH, &s);
         }
         null_pointers(code);
     }

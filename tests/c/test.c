@@ -533,7 +533,7 @@ void by_hand(size_t code, const uint8_t *message, size_t bits, size_t words, uin
 
 /* ---- Sheets. */
 
-const char *const call_names[4] = {"build", "change", "append", "drop"};
+const char *const call_names[5] = {"build", "change", "append", "drop", "batch"};
 const size_t final_rounds[5] = {0, 1, 1, 2, 2};
 
 const size_t too_many[15] = {
@@ -557,6 +557,17 @@ void any_sheet(struct sheet *s, size_t code, size_t n, size_t more)
     fill((uint8_t *)s->marks, 4 * s->marks_len);
     fill(s->record, sizeof s->record);
     fill(s->claim, sizeof s->claim);
+    fill(s->records, RECORD * CHANGES);
+    size_t count = n < 3 ? n : 3;
+    batch_of(s, count, n / 4, count > 0 ? (n - n / 4) / count : 0);
+}
+
+void batch_of(struct sheet *s, size_t count, size_t first, size_t step)
+{
+    for (size_t i = 0; i < count; i++)
+        s->places[i] = first + i * step;
+    s->places_len = count;
+    s->records_len = RECORD * count;
 }
 
 void built_sheet(struct sheet *s, size_t code, size_t n, size_t more)
@@ -581,11 +592,23 @@ static void true_marks(const struct sheet *s, size_t from, uint32_t *marks)
     }
 }
 
-/* The rounds from mark m to the end: blocks that are left, and the final stage. */
-static uint64_t rounds_from(const struct sheet *s, size_t m)
+uint64_t rounds_from(const struct sheet *s, size_t m)
 {
     return RECORD * s->n / 32 + 1 - 5 * m + final_rounds[s->code];
 }
+
+void from_mark(const struct sheet *s, size_t m, size_t n, uint8_t *digest)
+{
+    uint8_t record[LUFFA_RECORD_BYTES] = {(uint8_t)s->code};
+
+    for (size_t i = 0; i < state_bytes[s->code]; i++)
+        record[STATE + i] = (uint8_t)(s->marks[MARK * m + i / 4] >> (24 - 8 * (i % 4)));
+    feed_call(LUFFA_DONE, record, sizeof record, s->sheet + 4 * RECORD * m, RECORD * (n - 4 * m));
+    finish_call(LUFFA_DONE, record, sizeof record, LUFFA_512_BYTES, digest);
+}
+
+/* The empty set is checked, and no more. */
+static int only_checks(enum call call, const struct sheet *s) { return call == BATCH && s->places_len == 0; }
 
 /* What the call must leave of the sheet where it is done, and the answer. */
 static struct luffa_sheet_answer expected(enum call call, struct sheet *s)
@@ -615,61 +638,106 @@ static struct luffa_sheet_answer expected(enum call call, struct sheet *s)
         from = s->n / 4;
         written = from + 1;
         break;
+    case BATCH:
+        for (size_t i = 0; i < s->places_len; i++)
+            memcpy(s->sheet + RECORD * s->places[i], s->records + RECORD * i, RECORD);
+        from = only_checks(call, s) ? q : s->places[0] / 4;
+        written = from + 1;
+        break;
     }
     true_marks(s, written, s->marks);
     luffa_digest(s->code, s->sheet, RECORD * s->n, s->out, digest_bytes[s->code]);
-    return (struct luffa_sheet_answer){LUFFA_DONE, s->n, check + rounds_from(s, from)};
+    return (struct luffa_sheet_answer){LUFFA_DONE, s->n, check + (only_checks(call, s) ? 0 : rounds_from(s, from))};
+}
+
+/* What the sheet calls are lent. */
+static struct lent in_sheet, in_marks, in_record, in_places, in_records, in_claim, in_out;
+
+static void protect_sheet(int protection)
+{
+    protect(in_sheet.room, in_sheet.size, protection);
+    protect(in_marks.room, in_marks.size, protection);
+}
+
+/* Where nothing is to be written, sheet and marks can't be: always if the call is done, and in one of 32 refusals, as
+   valgrind takes its time over pages. */
+static struct luffa_sheet_answer lent_call(uint64_t want, enum call call, const struct sheet *s)
+{
+    int sealed = want == LUFFA_DONE ? only_checks(call, s) : any_byte() % 32 == 0;
+    uint8_t *sheet = lend(&in_sheet, s->sheet, s->sheet_len), *record = lend(&in_record, s->record, s->record_len);
+    uint32_t *marks = (void *)lend_aligned(&in_marks, (const uint8_t *)s->marks, 4 * s->marks_len, 4);
+    size_t *places = (void *)lend_aligned(&in_places, (const uint8_t *)s->places, 8 * s->places_len, 8);
+    uint8_t *records = lend(&in_records, s->records, s->records_len);
+    uint8_t *claim = lend(&in_claim, s->claim, s->claim_len), *out = lend(&in_out, NULL, s->out_len);
+    struct luffa_sheet_answer got = {0, 0, 0};
+
+    if (sealed)
+        protect_sheet(PROT_READ);
+    switch (call) {
+    case BUILD:
+        got = luffa_sheet_build(s->code, sheet, s->sheet_len, s->n, marks, s->marks_len, out, s->out_len);
+        break;
+    case CHANGE:
+        got = luffa_sheet_change(s->code, sheet, s->sheet_len, s->n, marks, s->marks_len, s->place, record,
+                                 s->record_len, claim, s->claim_len, out, s->out_len);
+        break;
+    case APPEND:
+        got = luffa_sheet_append(s->code, sheet, s->sheet_len, s->n, marks, s->marks_len, record, s->record_len, claim,
+                                 s->claim_len, out, s->out_len);
+        break;
+    case DROP:
+        got = luffa_sheet_drop(s->code, sheet, s->sheet_len, s->n, marks, s->marks_len, claim, s->claim_len, out,
+                               s->out_len);
+        break;
+    case BATCH:
+        got = luffa_sheet_batch(s->code, sheet, s->sheet_len, s->n, marks, s->marks_len, places, s->places_len, records,
+                                s->records_len, claim, s->claim_len, out, s->out_len);
+        break;
+    }
+    if (sealed)
+        protect_sheet(PROT_READ | PROT_WRITE);
+    return got;
+}
+
+/* Judges the answer of a call on n records, and that `s` is what it left, where done with the digest in out. */
+static void judge(struct luffa_sheet_answer got, struct luffa_sheet_answer wanted, enum call call, size_t n,
+                  const struct sheet *s)
+{
+    size_t written = wanted.number == LUFFA_DONE ? digest_bytes[s->code] : 0;
+    int read_only = kept(&in_record, 0) && kept(&in_places, 0) && kept(&in_records, 0) && kept(&in_claim, 0);
+    const char *wrong = memcmp(&got, &wanted, sizeof got) != 0       ? "wrong answer"
+                        : !left(&in_sheet, s->sheet)                 ? "wrong sheet"
+                        : !left(&in_marks, s->marks)                 ? "wrong marks"
+                        : !read_only || !kept(&in_out, written)      ? "wrote outside the digest"
+                        : memcmp(in_out.bytes, s->out, written) != 0 ? "wrong digest"
+                                                                     : NULL;
+
+    check(wrong == NULL,
+          "%s of %zu records at code %zu, place %zu, or %zu places: %s, answered %llu, %llu, %llu, wanted %llu, %llu, "
+          "%llu",
+          call_names[call], n, s->code, s->place, s->places_len, wrong, (unsigned long long)got.number,
+          (unsigned long long)got.count, (unsigned long long)got.rounds, (unsigned long long)wanted.number,
+          (unsigned long long)wanted.count, (unsigned long long)wanted.rounds);
 }
 
 struct luffa_sheet_answer sheet_call(uint64_t want, enum call call, struct sheet *s)
 {
-    static struct lent in_sheet, in_marks, in_record, in_claim, in_out;
-    uint8_t *sheet = lend(&in_sheet, s->sheet, s->sheet_len), *record = lend(&in_record, s->record, s->record_len);
-    uint8_t *claim = lend(&in_claim, s->claim, s->claim_len), *out = lend(&in_out, NULL, s->out_len);
-    uint32_t *marks = (void *)lend_aligned(&in_marks, (uint8_t *)s->marks, 4 * s->marks_len, 4);
-    struct luffa_sheet_answer got = {0, 0, 0}, wanted = {want, s->n, 0};
+    struct luffa_sheet_answer got = lent_call(want, call, s), wanted = {want, s->n, 0};
     size_t n = s->n;
 
-    switch (call) {
-    case BUILD:
-        got = luffa_sheet_build(s->code, sheet, s->sheet_len, n, marks, s->marks_len, out, s->out_len);
-        break;
-    case CHANGE:
-        got = luffa_sheet_change(s->code, sheet, s->sheet_len, n, marks, s->marks_len, s->place, record, s->record_len,
-                                 claim, s->claim_len, out, s->out_len);
-        break;
-    case APPEND:
-        got = luffa_sheet_append(s->code, sheet, s->sheet_len, n, marks, s->marks_len, record, s->record_len, claim,
-                                 s->claim_len, out, s->out_len);
-        break;
-    case DROP:
-        got = luffa_sheet_drop(s->code, sheet, s->sheet_len, n, marks, s->marks_len, claim, s->claim_len, out,
-                               s->out_len);
-        break;
-    }
     if (want == LUFFA_STALE)
         wanted.rounds = n % 4 + 1 + final_rounds[s->code];
     if (want == LUFFA_DONE)
         wanted = expected(call, s);
-    check(got.number == wanted.number && got.count == wanted.count && got.rounds == wanted.rounds,
-          "%s of %zu records at code %zu, place %zu: answered %llu, %llu, %llu, wanted %llu, %llu, %llu",
-          call_names[call], n, s->code, s->place, (unsigned long long)got.number, (unsigned long long)got.count,
-          (unsigned long long)got.rounds, (unsigned long long)wanted.number, (unsigned long long)wanted.count,
-          (unsigned long long)wanted.rounds);
-    check(left(&in_sheet, s->sheet) && kept(&in_record, 0) && kept(&in_claim, 0),
-          "%s of %zu records at code %zu, place %zu, answer %u: wrong sheet", call_names[call], n, s->code, s->place,
-          (unsigned)got.number);
-    check(left(&in_marks, s->marks), "%s of %zu records at code %zu, place %zu, answer %u: wrong marks",
-          call_names[call], n, s->code, s->place, (unsigned)got.number);
-    check(kept(&in_out, want == LUFFA_DONE ? digest_bytes[s->code] : 0),
-          "%s of %zu records at code %zu, answer %u: wrote outside the digest", call_names[call], n, s->code,
-          (unsigned)got.number);
-    if (want == LUFFA_DONE) {
-        check(memcmp(in_out.bytes, s->out, digest_bytes[s->code]) == 0,
-              "%s of %zu records at code %zu, place %zu: wrong digest", call_names[call], n, s->code, s->place);
-        memcpy(s->claim, in_out.bytes, digest_bytes[s->code]);
-    }
+    judge(got, wanted, call, n, s);
+    if (want == LUFFA_DONE)
+        memcpy(s->claim, s->out, digest_bytes[s->code]);
     return got;
+}
+
+void found_call(uint64_t rounds, enum call call, const struct sheet *s, const struct sheet *after)
+{
+    judge(lent_call(LUFFA_DONE, call, s), (struct luffa_sheet_answer){LUFFA_DONE, after->n, rounds}, call, s->n, after);
 }
 
 /* What mending must leave of the marks, and the answer. Where they are lent, the pages of the wrong ones are made
@@ -692,19 +760,16 @@ static struct luffa_mend_answer mended(struct sheet *s, uint32_t *lent)
 
 struct luffa_mend_answer mend_call(uint64_t want, struct sheet *s)
 {
-    static struct lent in_sheet, in_marks;
     uint8_t *sheet = lend(&in_sheet, s->sheet, s->sheet_len);
     uint32_t *marks = (void *)lend_aligned(&in_marks, (uint8_t *)s->marks, 4 * s->marks_len, 4);
     struct luffa_mend_answer wanted = {want, 0, 0, 0};
 
     if (want == LUFFA_DONE) {
-        protect(in_sheet.room, in_sheet.size, PROT_READ);
-        protect(in_marks.room, in_marks.size, PROT_READ);
+        protect_sheet(PROT_READ);
         wanted = mended(s, marks);
     }
     struct luffa_mend_answer got = luffa_sheet_mend(s->code, sheet, s->sheet_len, s->n, marks, s->marks_len);
-    protect(in_sheet.room, in_sheet.size, PROT_READ | PROT_WRITE);
-    protect(in_marks.room, in_marks.size, PROT_READ | PROT_WRITE);
+    protect_sheet(PROT_READ | PROT_WRITE);
 
     check(memcmp(&got, &wanted, sizeof got) == 0,
           "mend of %zu records at code %zu: answered %llu, %llu wrong, first %llu, %llu rounds, wanted %llu, %llu, "

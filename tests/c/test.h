@@ -101,39 +101,56 @@ void by_hand(size_t code, const uint8_t *message, size_t bits, size_t words, uin
 
 /* ---- Sheets. */
 
-enum call { BUILD, CHANGE, APPEND, DROP };
-extern const char *const call_names[4];
+enum call { BUILD, CHANGE, APPEND, DROP, BATCH };
+extern const char *const call_names[5];
 
 enum { RECORD = LUFFA_SHEET_RECORD_BYTES, MARK = LUFFA_MARK_WORDS, MOST = LUFFA_SHEET_MOST, ROOM_FOR = MOST + 6 };
+
+/* The most changes of a batch, and more places than that. */
+enum { CHANGES = LUFFA_CHANGES_MOST, PLACES = 264 };
 
 /* Numbers of records that no sheet has, among them such as are few once they are cut to 32 bits, and
    such as need few bytes or words once the product is cut to 64. */
 extern const size_t too_many[15];
 
-/* A sheet, and all that a call on it is given. */
+/* A sheet, and all that a call on it is given: a change its place and record, a batch its places and records. */
 struct sheet {
     size_t code, n, place;
     size_t sheet_len, marks_len, record_len, claim_len, out_len;
+    size_t places_len, records_len, places[PLACES];
     uint8_t sheet[RECORD * ROOM_FOR];
     uint32_t marks[LUFFA_MARKS_FOR(ROOM_FOR)];
-    uint8_t record[100], claim[100], out[200];
+    uint8_t record[100], claim[100], out[200], records[RECORD * PLACES];
 };
 
 /* n records of any bytes, with room for `more`, and no byte or word beyond that is lent. The marks
-   are any words; the record is any, and the output buffer has a few bytes too many. */
+   are any words; the record is any, and the output buffer has a few bytes too many. The batch is of
+   three changes, or as many as there are records. */
 void any_sheet(struct sheet *s, size_t code, size_t n, size_t more);
+
+/* A batch of so many changes, the first at this place and each so many places after the one before, with
+   records just long enough. */
+void batch_of(struct sheet *s, size_t count, size_t first, size_t step);
 
 /* The same, built, and the digest claimed. */
 void built_sheet(struct sheet *s, size_t code, size_t n, size_t more);
 
-/* F, the rounds of the final stage. */
+/* F, the rounds of the final stage; and the rounds from mark m to the end, blocks that are left and F. */
 extern const size_t final_rounds[5];
+uint64_t rounds_from(const struct sheet *s, size_t m);
+
+/* The digest that the steps give over n records from mark m as it is found: of a record with its words. */
+void from_mark(const struct sheet *s, size_t m, size_t n, uint8_t *digest);
 
 /* Makes a call on a sheet whose marks are true. Where done, everything is judged by luffa_digest and
    luffa_feed over the whole sheet, and by document 01's formulas for rounds; refused, nothing may
-   have changed. Then `s` is what the call left, with the new count, and the claim is the new
-   digest. */
+   have changed. The empty set is saved where neither sheet nor marks can be written. Then `s` is what
+   the call left, with the new count, and the claim is the new digest. */
 struct luffa_sheet_answer sheet_call(uint64_t want, enum call call, struct sheet *s);
+
+/* Makes a call on a sheet whatever its marks are: it must be done in so many rounds, and leave the sheet,
+   the marks and in out the digest that `after` has. */
+void found_call(uint64_t rounds, enum call call, const struct sheet *s, const struct sheet *after);
 
 /* Has the marks of a sheet mended, whatever they are. Where done, the answer and the marks are judged by
    luffa_feed over the whole sheet, and neither the sheet nor a page of the marks that has no wrong one in

@@ -15,6 +15,32 @@ static int holds(const uint8_t *mapped, const uint8_t *bytes, size_t n)
            memcmp(mapped + WIDE, zero, sizeof zero) == 0;
 }
 
+/* Batches at wide places. Cut to 32 bits, some of them would be places of the sheet, and some would rise. */
+static void wide_places(const struct sheet *s, uint8_t *sheet, uint32_t *marks, uint8_t *out)
+{
+    const struct {
+        size_t count, places[2];
+        uint64_t number;
+    } batches[] = {
+        {1, {WIDE, 0}, LUFFA_PLACE},
+        {1, {WIDE + 1, 0}, LUFFA_PLACE},
+        {2, {0, WIDE + 1}, LUFFA_PLACE},
+        {2, {1, WIDE + 1}, LUFFA_PLACE},
+        {2, {3, WIDE + 2}, LUFFA_PLACE},
+        {2, {WIDE + 1, WIDE + 3}, LUFFA_PLACE},
+        {2, {WIDE, 1}, LUFFA_SET},
+        {2, {WIDE + 1, 2}, LUFFA_SET},
+        {2, {WIDE + 1, WIDE + 1}, LUFFA_SET},
+        {2, {2 * WIDE, WIDE + 1}, LUFFA_SET},
+    };
+
+    for (size_t i = 0; i < COUNT_OF(batches); i++)
+        check(luffa_sheet_batch(s->code, sheet, WIDE, s->n, marks, WIDE, batches[i].places, batches[i].count,
+                                s->records, RECORD * batches[i].count, s->claim, digest_bytes[s->code], out, WIDE)
+                      .number == batches[i].number,
+              "batch at %zu and %zu at code %zu", batches[i].places[0], batches[i].places[1], s->code);
+}
+
 /* A sheet of five records in wide buffers, and with each length in turn made wide that must not be. */
 static void sheets(uint8_t *sheet, uint32_t *marks, uint8_t *out, size_t code)
 {
@@ -46,16 +72,32 @@ static void sheets(uint8_t *sheet, uint32_t *marks, uint8_t *out, size_t code)
     check(luffa_sheet_change(code, sheet, WIDE, n, marks, WIDE, WIDE, s.record, RECORD, s.claim, d, out, WIDE).number ==
               LUFFA_PLACE,
           "change at a wide place at code %zu", code);
+    wide_places(&s, sheet, marks, out);
+    check(luffa_sheet_batch(WIDE + code, sheet, WIDE, n, marks, WIDE, s.places, 1, s.record, RECORD, s.claim, d, out,
+                            WIDE)
+                      .number == LUFFA_WIDTH &&
+              luffa_sheet_batch(code, sheet, WIDE, WIDE + n, marks, WIDE, s.places, 1, s.record, RECORD, s.claim, d,
+                                out, WIDE)
+                      .number == LUFFA_SHEET,
+          "batch of a wide number of records at code %zu", code);
     check(luffa_sheet_change(code, sheet, WIDE, n, marks, WIDE, 0, wide, WIDE + RECORD, s.claim, d, s.out, d).number ==
                   LUFFA_SIZE &&
               luffa_sheet_append(code, sheet, WIDE, n, marks, WIDE, wide, WIDE + RECORD, s.claim, d, s.out, d).number ==
-                  LUFFA_SIZE,
+                  LUFFA_SIZE &&
+              luffa_sheet_batch(code, sheet, WIDE, n, marks, WIDE, s.places, 1, wide, WIDE + RECORD, s.claim, d, s.out,
+                                d)
+                      .number == LUFFA_SIZE &&
+              luffa_sheet_batch(code, sheet, WIDE, n, marks, WIDE, s.places, 0, wide, WIDE, s.claim, d, s.out, d)
+                      .number == LUFFA_SIZE,
           "a wide record at code %zu", code);
     check(luffa_sheet_change(code, sheet, WIDE, n, marks, WIDE, 0, s.record, RECORD, wide, WIDE + d, s.out, d).number ==
                   LUFFA_CLAIM &&
               luffa_sheet_append(code, sheet, WIDE, n, marks, WIDE, s.record, RECORD, wide, WIDE + d, s.out, d)
                       .number == LUFFA_CLAIM &&
-              luffa_sheet_drop(code, sheet, WIDE, n, marks, WIDE, wide, WIDE + d, s.out, d).number == LUFFA_CLAIM,
+              luffa_sheet_drop(code, sheet, WIDE, n, marks, WIDE, wide, WIDE + d, s.out, d).number == LUFFA_CLAIM &&
+              luffa_sheet_batch(code, sheet, WIDE, n, marks, WIDE, s.places, 1, s.record, RECORD, wide, WIDE + d, s.out,
+                                d)
+                      .number == LUFFA_CLAIM,
           "a wide claim at code %zu", code);
     check(holds(sheet, s.sheet, RECORD * n) && holds(out, s.sheet, 0), "refused at code %zu, and something written",
           code);
@@ -66,6 +108,14 @@ static void sheets(uint8_t *sheet, uint32_t *marks, uint8_t *out, size_t code)
     check(luffa_sheet_drop(code, sheet, WIDE, n + 1, marks, WIDE, held, d, out, WIDE).count == n &&
               holds(sheet, s.sheet, RECORD * n) && holds(out, s.claim, d),
           "drop in wide buffers at code %zu", code);
+    check(luffa_sheet_batch(code, sheet, WIDE, n, marks, WIDE, s.places, s.places_len, s.records, s.records_len,
+                            s.claim, d, out, WIDE)
+                  .count == n,
+          "batch in wide buffers at code %zu", code);
+    sheet_call(LUFFA_DONE, BATCH, &s);
+    check(memcmp(marks, s.marks, 4 * s.marks_len) == 0 && marks[s.marks_len] == 0 && marks[WIDE] == 0 &&
+              holds(sheet, s.sheet, RECORD * n) && holds(out, s.claim, d),
+          "batch in wide buffers at code %zu: another sheet", code);
     memset(sheet, 0, RECORD * n);
     memset(marks, 0, 4 * s.marks_len);
     memset(out, 0, d);
@@ -80,7 +130,7 @@ static uint8_t *map(size_t bytes)
 }
 
 /* A sheet's page in wide buffers, and then as many sheets, or records of the second. The lists are
-   unmapped again: valgrind has no addresses for them beside the marks. */
+   unmapped again, as are those of places: valgrind has no addresses for them beside the marks. */
 static void brine(uint8_t *sheets)
 {
     size_t counts[] = {WELLS, WIDE}, bytes = 8 * WIDE + 65536;
@@ -101,6 +151,28 @@ static void brine(uint8_t *sheets)
     memset(sheets, 0, RECORD * WELLS);
     munmap(intake, bytes);
     munmap(spare, bytes);
+}
+
+/* As many changes as make none, one or the most once they are cut. */
+static void batches(void)
+{
+    static struct sheet s, copy;
+    size_t bytes = 8 * WIDE + 65536, *places = (void *)map(bytes);
+    const size_t counts[] = {WIDE, WIDE + 1, WIDE + CHANGES};
+
+    for (size_t i = 0; i < CHANGES; i++)
+        places[i] = i;
+    for (size_t code = 1; code <= 4; code++) {
+        built_sheet(&s, code, 2 * CHANGES, 0);
+        copy = s;
+        for (size_t i = 0; i < COUNT_OF(counts); i++)
+            check(luffa_sheet_batch(code, s.sheet, s.sheet_len, s.n, s.marks, s.marks_len, places, counts[i], s.records,
+                                    RECORD * (counts[i] - WIDE), s.claim, s.claim_len, s.out, s.out_len)
+                              .number == LUFFA_SET &&
+                      memcmp(&s, &copy, sizeof s) == 0,
+                  "a batch of 2^32 + %zu changes at code %zu", counts[i] - WIDE, code);
+    }
+    munmap(places, bytes);
 }
 
 /* So many words were written to the beginning of the mapped bytes, and nothing after them; they are cleared. */
@@ -154,6 +226,7 @@ int main(void)
     uint8_t *mapped = map(WIDE + 65536), *out = map(WIDE + 65536);
 
     brine(mapped);
+    batches();
     uint32_t *marks = (void *)map(4 * WIDE + 65536);
     for (size_t code = 1; code <= 4; code++) {
         /* A record buffer of 2^32 + 216 bytes isn't one of 216. */
