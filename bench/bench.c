@@ -1,7 +1,8 @@
 /* Cycles per byte of the archive and of portable.c over the same messages in one run, of feeding against the one-call digest, and of the
    sheet calls against hashing the whole sheet, with the bars; then the other parts: bits.c has messages that stop inside a byte, output.c longer
-   output, mend.c the mending of marks, plans.c what a sheet means, stack.c the stack of each call. It measures nothing before all have given the
-   same digests and marks, and the calls on sound sheets were right; --check leaves out the clock. */
+   output, mend.c the mending of marks, batch.c many changes in one save, plans.c what a sheet means, stack.c the stack of each call. It measures
+   nothing before all have given the same digests and marks, and the calls on sound sheets were right; --check leaves out the clock. */
+#include "batch.h"
 #include "bench.h"
 #include "portable.h"
 
@@ -115,7 +116,8 @@ static int same_sheet(const char *call, struct luffa_sheet_answer answer, size_t
     return 0;
 }
 
-/* A sheet that is built, changed at both ends and between, appended to and dropped from; each save claims the digest before it. */
+/* A sheet that is built, changed at both ends and between and then at many places at once, appended to and dropped from; each save claims the
+   digest before it. */
 static int saved(size_t code, const uint8_t *message, size_t n)
 {
     static struct sheet sheet;
@@ -123,6 +125,7 @@ static int saved(size_t code, const uint8_t *message, size_t n)
     struct sheet *s = job.sheet;
     const uint8_t *record = message + SHEET_RECORD * SHEET_MOST;
     const size_t places[] = {n - 1, n / 2, 0};
+    size_t many[LUFFA_CHANGES_MOST], count = spread(many, COUNT(many), n);
     struct luffa_sheet_answer answer =
         luffa_sheet_build(code, s->records, sizeof s->records, n, s->marks, MARKS_MOST, job.out, sizeof job.out);
 
@@ -134,6 +137,11 @@ static int saved(size_t code, const uint8_t *message, size_t n)
         if (!same_sheet("change", answer, n, &job))
             return 0;
     }
+    answer = luffa_sheet_batch(code, s->records, sizeof s->records, n, s->marks, MARKS_MOST, many, count, record, SHEET_RECORD * count, s->digest,
+                               DIGEST_BYTES[code], job.out, sizeof job.out);
+    if (!same_sheet("batch", answer, n, &job))
+        return 0;
+    record += SHEET_RECORD * count;
     if (n < SHEET_MOST) {
         answer = luffa_sheet_append(code, s->records, sizeof s->records, n, s->marks, MARKS_MOST, record, SHEET_RECORD, s->digest,
                                     DIGEST_BYTES[code], job.out, sizeof job.out);
@@ -234,9 +242,9 @@ static void short_pieces(const uint8_t *message)
         }
 }
 
-void race_sheets(const uint8_t *message, const struct raced *calls, size_t count)
+void race_sheets(const uint8_t *message, const struct raced *calls, size_t count, unsigned timings)
 {
-    static const struct length LENGTH = {SHEET_RECORD * SHEET_MOST, 1, 1000};
+    const struct length length = {SHEET_RECORD * SHEET_MOST, 1, timings};
     work *runs[RACED_MOST];
 
     for (size_t k = 0; k < count; k++)
@@ -251,7 +259,7 @@ void race_sheets(const uint8_t *message, const struct raced *calls, size_t count
                 printf("REFUSED: code %zu, %s\n", code, calls[k].name);
                 exit(1);
             }
-        race(runs, count, &job, &LENGTH, best);
+        race(runs, count, &job, &length, best);
         for (size_t k = 0; k < count; k++) {
             double ratio = best[k] / best[0];
             printf("%4zu   %-18s %10.0f %9.4f", code, calls[k].name, best[k] * (double)job.len, ratio);
@@ -275,7 +283,7 @@ static void sheets(const uint8_t *message)
                                          {"drop at 1,024", archive_drop, NULL, 0, 0}};
 
     printf("\nSheet of 1,024 records, cycles per call and their ratio to the digest of its bytes, best timing of each, taken in turns\n\n");
-    race_sheets(message, CALLS, COUNT(CALLS));
+    race_sheets(message, CALLS, COUNT(CALLS), 1000);
 }
 
 int main(int argc, char **argv)
@@ -299,6 +307,7 @@ int main(int argc, char **argv)
         outputs(message);
         sheets(message);
         mends(message);
+        changes(message);
         plans();
     }
     return stacks(message) ? 0 : 1;

@@ -42,7 +42,7 @@ struct raced {
 
 enum { RACED_MOST = 8 };
 
-void race_sheets(const uint8_t *message, const struct raced *calls, size_t count);
+void race_sheets(const uint8_t *message, const struct raced *calls, size_t count, unsigned timings);
 
 /* Whether both give the same, each on a copy of the job; else it is printed, the first as the archive's. */
 int same(const char *way, work *a, work *b, const struct job *job);
@@ -61,6 +61,10 @@ void outputs(const uint8_t *message);
 
 int check_mends(const uint8_t *message);
 void mends(const uint8_t *message);
+
+/* -- Many changes in one save (batch.c) -- */
+
+void changes(const uint8_t *message);
 
 /* -- What sheets mean (plans.c) -- */
 

@@ -68,5 +68,5 @@ void mends(const uint8_t *message)
                                          {"mend, all wrong", archive_mend_wrong, "1.10", 1.10, 0}};
 
     printf("\nMarks of 1,024 records, cycles per call and their ratio to the build, best timing of each, taken in turns\n\n");
-    race_sheets(message, CALLS, COUNT(CALLS));
+    race_sheets(message, CALLS, COUNT(CALLS), 1000);
 }
