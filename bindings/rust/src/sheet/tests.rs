@@ -18,7 +18,7 @@ impl Sheet {
     }
 }
 
-fn sheet(code: Code, n: usize) -> Sheet {
+pub(super) fn sheet(code: Code, n: usize) -> Sheet {
     let records = Numbers(n as u64).records(n);
     let sheet = Sheet::from_records(code, &records).unwrap();
     assert_eq!(sheet.records(), records);

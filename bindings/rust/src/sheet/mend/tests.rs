@@ -3,6 +3,7 @@
 
 use super::{Mended, Sheet};
 use crate::random::Numbers;
+use crate::sheet::tests::sheet;
 use crate::{Code, ffi};
 
 /// What a mend says of a sheet, these of whose marks are wrong.
@@ -48,10 +49,6 @@ fn mends(sheet: &Sheet, spoiled: &[u32], wrong: &[usize]) {
     assert_eq!(opened, *sheet);
     assert!(bytes == sheet.bytes());
     opened.holds();
-}
-
-fn sheet(code: Code, n: usize) -> Sheet {
-    Sheet::from_records(code, &Numbers(n as u64).records(n)).unwrap()
 }
 
 /// Mark m is the state of a hash that was fed the first 4m records, which its record has from byte 8 on.
