@@ -41,7 +41,7 @@ pub enum Error {
     Place,
     /// 8: the sheet has 1,024 records already.
     Full,
-    /// 9: the new record isn't 40 bytes. Never met.
+    /// 9: the new record isn't 40 bytes, or new records aren't 40 for each place. Never met.
     Size,
     /// 10: the claim is a digest of another length, or bytes are no digest's length.
     Claim,
@@ -54,6 +54,9 @@ pub enum Error {
     Words,
     /// 13: a batch of more than 64 sheets.
     Batch,
+    /// 14: more than 64 changes in one save, or a place that isn't above the one before it.
+    /// [`Sheet::change_all`](crate::Sheet::change_all) alone gives it.
+    Set,
     /// 17: more than 7 odd bits, odd bits without a byte that has them, or a record whose message has
     /// ended with odd bits.
     Odd,
@@ -79,6 +82,7 @@ impl Error {
             Error::Stale { .. } => 11,
             Error::Words => 12,
             Error::Batch => 13,
+            Error::Set => 14,
             Error::Odd => 17,
             Error::List => 25,
         }
@@ -103,6 +107,7 @@ impl Error {
             Error::Stale { rounds },
             Error::Words,
             Error::Batch,
+            Error::Set,
             Error::Odd,
             Error::List,
         ];
@@ -130,6 +135,7 @@ impl fmt::Display for Error {
             Error::Stale { .. } => "the sheet isn't the one whose digest is claimed",
             Error::Words => "no word is asked for, or more than 64",
             Error::Batch => "a batch is at most 64 sheets",
+            Error::Set => "there are more than 64 changes in one save, or their places don't rise",
             Error::Odd => "no message has these odd bits, or it has ended with odd bits already",
             Error::List => "a list has fewer places than the batch has records",
         })

@@ -136,6 +136,22 @@ unsafe extern "C" {
         out: *mut u8,
         out_len: usize,
     ) -> Answer;
+    fn luffa_sheet_batch(
+        code: usize,
+        sheet: *mut u8,
+        sheet_len: usize,
+        n: usize,
+        marks: *mut u32,
+        marks_len: usize,
+        places: *const usize,
+        places_len: usize,
+        records: *const u8,
+        records_len: usize,
+        claim: *const u8,
+        claim_len: usize,
+        out: *mut u8,
+        out_len: usize,
+    ) -> Answer;
     fn luffa_sheet_append(
         code: usize,
         sheet: *mut u8,
@@ -351,6 +367,34 @@ pub fn change(
             place,
             record.as_ptr(),
             record.len(),
+            claim.as_ptr(),
+            claim.len(),
+            out.as_mut_ptr(),
+            out.len(),
+        )
+    }
+}
+
+pub fn batch(
+    lent: &mut Lent,
+    places: &[usize],
+    records: &[u8],
+    claim: &[u8],
+    out: &mut [u8],
+) -> Answer {
+    // SAFETY: as in `change`; `places` are read within their length, which is in elements.
+    unsafe {
+        luffa_sheet_batch(
+            lent.code,
+            lent.sheet.as_mut_ptr(),
+            lent.sheet.len(),
+            lent.n,
+            lent.marks.as_mut_ptr(),
+            lent.marks.len(),
+            places.as_ptr(),
+            places.len(),
+            records.as_ptr(),
+            records.len(),
             claim.as_ptr(),
             claim.len(),
             out.as_mut_ptr(),

@@ -52,7 +52,9 @@
 //! # Ok::<(), Error>(())
 //! ```
 //!
-//! Its marks, which spare a save the hashing of the whole sheet, may be kept with the records;
+//! [`Sheet::change_all`] saves many changes at once, all of them or none.
+//!
+//! A sheet's marks, which spare a save the hashing of it all, may be kept with the records;
 //! [`Sheet::from_kept`] mends those that a disk has spoiled, and says which was the first.
 //!
 //! What the records mean to the balancer is in [`plan`]: a [`Well`](plan::Well) has the fields of a

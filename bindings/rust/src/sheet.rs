@@ -5,6 +5,7 @@ use crate::plan::{self, Verdict};
 use crate::{Code, Digest, Error};
 use std::fmt;
 
+mod batch;
 #[cfg(test)]
 mod history;
 mod mend;

@@ -1,6 +1,6 @@
 //! The refusals: luffa.h's numbers, document 01's each met from the library itself. Those of longer output
-//! are met in hash/output/tests.rs too, those of a mend in sheet/mend/refusals.rs, and those that a brine
-//! statement alone gives in plan/brine/refusals.rs.
+//! are met in hash/output/tests.rs too, those of a mend in sheet/mend/refusals.rs, those of many changes in
+//! sheet/batch, and those that a brine statement alone gives in plan/brine/refusals.rs.
 
 use super::Error;
 use crate::ffi::{self, Lent};
@@ -10,7 +10,7 @@ use crate::{Code, Digest, Luffa256, Sheet};
 fn numbers_and_sentences() {
     assert_eq!(Error::judge(0, 0), Ok(()));
     let mut sentences = Vec::new();
-    for number in (1..=13).chain([17, 25]) {
+    for number in (1..=14).chain([17, 25]) {
         let error = Error::judge(number, 5).unwrap_err();
         assert_eq!(u64::from(error.number()), number);
         let source: &dyn std::error::Error = &error;
@@ -19,13 +19,13 @@ fn numbers_and_sentences() {
     assert_eq!(Error::judge(11, 5), Err(Error::Stale { rounds: 5 }));
     sentences.sort();
     sentences.dedup();
-    assert_eq!(sentences.len(), 15);
+    assert_eq!(sentences.len(), 16);
 }
 
 #[test]
-#[should_panic(expected = "libluffa.a answered 14")]
+#[should_panic(expected = "libluffa.a answered 15")]
 fn an_unknown_number() {
-    let _ = Error::judge(14, 0);
+    let _ = Error::judge(15, 0);
 }
 
 /// What the public calls can meet.
@@ -59,6 +59,8 @@ fn met_by_callers() {
     let new = [1; 40];
     assert_eq!(sheet.change(1024, &new, &claim), Err(Error::Place));
     assert_eq!(sheet.append(&new, &claim), Err(Error::Full));
+    let twice = [(1024, new); 2];
+    assert_eq!(sheet.change_all(twice, &claim), Err(Error::Set));
     assert_eq!(sheet.change(0, &new, &other), Err(Error::Claim));
     let rounds = 2;
     assert_eq!(sheet.drop_last(&stale), Err(Error::Stale { rounds }));

@@ -5,37 +5,46 @@ use super::mend::tests::{found, spoil};
 use super::{Saved, Sheet};
 use crate::random::Numbers;
 use crate::{Code, Digest, Error};
-use std::collections::BTreeMap;
+use std::collections::{BTreeMap, BTreeSet};
 
-/// The records alone, and document 01's rules for what a save answers.
-struct Plain {
-    code: Code,
-    records: Vec<[u8; 40]>,
+/// The records alone, and the rules of documents 01 and 02 for what a save answers.
+pub struct Plain {
+    pub code: Code,
+    pub records: Vec<[u8; 40]>,
 }
 
-#[derive(Clone, Copy)]
-enum Save {
+pub enum Save {
     Change(usize, [u8; 40]),
+    Batch(Vec<(usize, [u8; 40])>),
     Append([u8; 40]),
     Drop,
 }
 
 impl Plain {
+    pub fn of(sheet: &Sheet) -> Plain {
+        Plain {
+            code: sheet.code(),
+            records: sheet.records().to_vec(),
+        }
+    }
+
     fn digest(&self) -> Digest {
         Digest::of(self.code, self.records.as_flattened())
     }
 
     /// The rounds from the mark before a place to the end of the sheet.
-    fn rounds_from(&self, place: usize) -> u64 {
+    pub fn rounds_from(&self, place: usize) -> u64 {
         let blocks = 40 * self.records.len() / 32 + 1;
         let last = if self.code.number() < 3 { 1 } else { 2 };
         (blocks - 5 * (place / 4) + last) as u64
     }
 
-    fn save(&mut self, save: Save, claim: &Digest) -> Result<Saved, Error> {
+    pub fn save(&mut self, save: &Save, claim: &Digest) -> Result<Saved, Error> {
         let n = self.records.len();
         match save {
-            Save::Change(place, _) if place >= n => return Err(Error::Place),
+            Save::Batch(changes) if !is_set(changes) => return Err(Error::Set),
+            Save::Batch(changes) if changes.iter().any(|c| c.0 >= n) => return Err(Error::Place),
+            Save::Change(place, _) if *place >= n => return Err(Error::Place),
             Save::Drop if n == 0 => return Err(Error::Place),
             Save::Append(_) if n == 1024 => return Err(Error::Full),
             _ if claim.code() != self.code => return Err(Error::Claim),
@@ -45,33 +54,66 @@ impl Plain {
         if *claim != self.digest() {
             return Err(Error::Stale { rounds });
         }
-        let place = match save {
+        // Where the work starts; without a change there is none.
+        let lowest = match save {
             Save::Change(place, record) => {
-                self.records[place] = record;
-                place
+                self.records[*place] = *record;
+                Some(*place)
+            }
+            Save::Batch(changes) => {
+                for (place, record) in changes {
+                    self.records[*place] = *record;
+                }
+                changes.first().map(|change| change.0)
             }
             Save::Append(record) => {
-                self.records.push(record);
-                n
+                self.records.push(*record);
+                Some(n)
             }
             Save::Drop => {
                 self.records.pop();
-                n - 1
+                Some(n - 1)
             }
         };
         Ok(Saved {
             digest: self.digest(),
-            rounds: rounds + self.rounds_from(place),
+            rounds: rounds + lowest.map_or(0, |place| self.rounds_from(place)),
         })
     }
 }
 
+/// Whether these may be one save, wherever their places are.
+fn is_set(changes: &[(usize, [u8; 40])]) -> bool {
+    changes.len() <= 64 && changes.is_sorted_by(|one, next| one.0 < next.0)
+}
+
+/// Up to so many changes, at rising places of n records.
+pub fn rising(numbers: &mut Numbers, n: usize, most: usize) -> Vec<(usize, [u8; 40])> {
+    let places: BTreeSet<_> = (0..most.min(n)).map(|_| numbers.below(n)).collect();
+    let change = |place| (place, numbers.record());
+    places.into_iter().map(change).collect()
+}
+
+/// Changes for one save: at times too many, or the last at a place that isn't in the sheet or has been.
+fn any_changes(numbers: &mut Numbers, n: usize) -> Vec<(usize, [u8; 40])> {
+    let most = [1, 5, 30, 80][numbers.below(4)];
+    let most = numbers.below(most + 1);
+    let mut changes = rising(numbers, n, most);
+    match numbers.below(8) {
+        0 => changes.push((n + numbers.below(3), numbers.record())),
+        1 if !changes.is_empty() => changes.push(changes[numbers.below(changes.len())]),
+        _ => {}
+    }
+    changes
+}
+
 /// A save of any kind; near the ends of the sheet at times one that is refused.
 fn any_save(numbers: &mut Numbers, n: usize) -> Save {
-    match numbers.below(8) {
+    match numbers.below(11) {
         0..4 => Save::Change(numbers.below(n + 1 + n / 8), numbers.record()),
         4..6 => Save::Append(numbers.record()),
-        _ => Save::Drop,
+        6..8 => Save::Drop,
+        _ => Save::Batch(any_changes(numbers, n)),
     }
 }
 
@@ -102,15 +144,19 @@ fn random_saves() {
         let mut sheet = Sheet::from_records(code, &records).unwrap();
         let mut plain = Plain { code, records };
         let mut old = sheet.digest();
-        for k in 0..300 {
+        for k in 0..400 {
             let save = any_save(&mut numbers, sheet.len());
             let claim = any_claim(&mut numbers, sheet.digest(), old);
-            let (name, got) = match save {
-                Save::Change(place, ref record) => ("change", sheet.change(place, record, &claim)),
-                Save::Append(ref record) => ("append", sheet.append(record, &claim)),
+            let (name, got) = match &save {
+                Save::Change(place, record) => ("change", sheet.change(*place, record, &claim)),
+                Save::Batch(changes) => {
+                    let changes = changes.iter().copied();
+                    ("batch", sheet.change_all(changes, &claim))
+                }
+                Save::Append(record) => ("append", sheet.append(record, &claim)),
                 Save::Drop => ("drop", sheet.drop_last(&claim)),
             };
-            let wanted = plain.save(save, &claim);
+            let wanted = plain.save(&save, &claim);
             assert_eq!(got, wanted, "{code:?}, from {start}: {name}, save {k}");
             assert!(sheet.records() == plain.records, "{name}, save {k}");
             assert_eq!(sheet.digest(), plain.digest(), "{name}, save {k}");
@@ -132,11 +178,11 @@ fn random_saves() {
         sheet.holds();
     }
     // Each save has been taken and refused in each way that it can be.
-    let all = [("append", 8), ("change", 7), ("drop", 7)]
+    let all = [("append", 8), ("change", 7), ("drop", 7), ("batch", 7)]
         .into_iter()
         .flat_map(|(name, own)| [0, own, 10, 11].map(|number| (name, number)));
-    for kind in all {
+    for kind in all.chain([("batch", 14)]) {
         assert!(met.get(&kind).is_some_and(|&times| times > 5), "{kind:?}");
     }
-    assert_eq!(met.len(), 12);
+    assert_eq!(met.len(), 17);
 }

@@ -140,6 +140,7 @@ fn two_planners() {
         };
         let stale = Err(Error::Stale { rounds });
         assert_eq!(sheet.change(2, &[2; 40], &ben), stale);
+        assert_eq!(sheet.change_all([(2, [2; 40]), (9, [2; 40])], &ben), stale);
         assert_eq!(sheet.append(&[2; 40], &ben), stale);
         assert_eq!(sheet.drop_last(&ben), stale);
         assert_eq!(sheet, before);

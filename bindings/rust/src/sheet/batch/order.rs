@@ -1,0 +1,195 @@
+//! The order of the refusals of many changes: each alone and with every set of the others.
+
+use super::tests::Held;
+use crate::random::Numbers;
+use crate::sheet::history::Plain;
+use crate::sheet::tests::sheet;
+use crate::{Code, ffi};
+
+pub const MAX: usize = usize::MAX;
+pub const WIDE: usize = 1 << 32;
+
+/// A call, with all that it is lent.
+#[derive(Clone)]
+pub struct Call {
+    pub held: Held,
+    pub places: Vec<usize>,
+    pub records: Vec<u8>,
+    pub claim: Vec<u8>,
+    /// In which the claim is checked.
+    rounds: u64,
+}
+
+impl Call {
+    /// New records at these places of a sheet of n, with nothing else wrong.
+    pub fn new(code: Code, n: usize, places: impl IntoIterator<Item = usize>) -> Call {
+        let sheet = sheet(code, n);
+        let places: Vec<_> = places.into_iter().collect();
+        Call {
+            held: Held::of(&sheet),
+            records: Numbers(1).bytes(40 * places.len()),
+            places,
+            claim: sheet.digest().as_bytes().to_vec(),
+            rounds: Plain::of(&sheet).rounds_from(n),
+        }
+    }
+
+    /// Where refused, nothing is written, and the count is the one given.
+    #[track_caller]
+    pub fn answers(mut self, number: u64) {
+        let before = self.held.clone();
+        let (places, records, claim) = (&self.places, &self.records, &self.claim);
+        let held = &mut self.held;
+        let answer = held.save(|lent, out| ffi::batch(lent, places, records, claim, out));
+        let n = before.n as u64;
+        if number == 0 {
+            assert_eq!(answer[..2], [0, n]);
+            for (place, record) in places.iter().zip(records.chunks(40)) {
+                assert_eq!(held.sheet[40 * place..][..40], *record);
+            }
+        } else {
+            let rounds = if number == 11 { self.rounds } else { 0 };
+            assert_eq!(answer, [number, n, rounds]);
+            assert!(*held == before, "written");
+        }
+    }
+}
+
+/// The order in which they are judged.
+const ORDER: [u64; 9] = [1, 2, 5, 6, 14, 7, 9, 10, 11];
+
+type Way = fn(&mut Call);
+
+/// Ways to meet each, for three changes or more. None undoes one that stands before it here, unless it has
+/// the earlier number of the two in the order.
+const WAYS: [(u64, &[Way]); 9] = [
+    (
+        1,
+        &[
+            |c| c.held.code = 0,
+            |c| c.held.code = 5,
+            |c| c.held.code += WIDE,
+            |c| c.held.code = MAX,
+        ],
+    ),
+    (
+        2,
+        &[
+            |c| c.held.out.clear(),
+            |c| c.held.out.truncate(c.claim.len() - 1),
+        ],
+    ),
+    (
+        6,
+        &[
+            |c| c.held.marks.clear(),
+            |c| c.held.marks.truncate(40 * (c.held.n / 4)),
+            |c| c.held.marks.truncate(40 * (c.held.n / 4) + 39),
+        ],
+    ),
+    (
+        5,
+        &[
+            |c| c.held.sheet.truncate(40 * c.held.n - 1),
+            |c| c.held.sheet.clear(),
+            |c| c.held.n = 1025,
+            |c| c.held.n += WIDE,
+            |c| c.held.n = MAX,
+        ],
+    ),
+    (
+        7,
+        &[
+            |c| c.places[2] = c.held.n,
+            |c| c.places[2] += WIDE,
+            |c| c.places[2] = MAX,
+        ],
+    ),
+    (
+        14,
+        &[
+            |c| c.places[2] = c.places[1],
+            |c| c.places.swap(1, 2),
+            |c| c.places.swap(0, 1),
+            |c| {
+                c.places = (0..65).collect();
+                c.records.resize(65 * 40, 1);
+            },
+        ],
+    ),
+    (
+        9,
+        &[
+            |c| c.records.push(1),
+            |c| c.records.truncate(c.records.len() - 1),
+            |c| c.records.truncate(c.records.len() - 40),
+            |c| c.records.extend([1; 40]),
+            |c| c.records.clear(),
+        ],
+    ),
+    (
+        11,
+        &[
+            |c| c.claim[0] ^= 0x80,
+            |c| *c.claim.last_mut().unwrap() ^= 1,
+        ],
+    ),
+    (
+        10,
+        &[
+            |c| c.claim.push(0),
+            |c| c.claim.truncate(c.claim.len() - 1),
+            |c| c.claim.clear(),
+        ],
+    ),
+];
+
+#[test]
+fn every_set_of_refusals() {
+    for code in Code::ALL {
+        let calls = [8, 9, 10, 11].map(|n| Call::new(code, n, [1, 4, 6]));
+        let sets = 0..1 << WAYS.len();
+        for (set, way) in sets.flat_map(|set| [0, 1, 2, 3, 4].map(|way| (set, way))) {
+            let mut call = calls[(set + way) % 4].clone();
+            let mut wrong = vec![];
+            for (k, (number, ways)) in WAYS.into_iter().enumerate() {
+                if set >> k & 1 == 1 {
+                    ways[way % ways.len()](&mut call);
+                    wrong.push(number);
+                }
+            }
+            let first = ORDER.into_iter().find(|number| wrong.contains(number));
+            call.answers(first.unwrap_or(0));
+        }
+    }
+}
+
+/// Without a change everything else is judged all the same, and a sheet of no records is a sheet.
+#[test]
+fn no_change() {
+    for code in Code::ALL {
+        for n in 0..=4 {
+            let call = Call::new(code, n, []);
+            call.clone().answers(0);
+            for (number, ways) in WAYS {
+                if [1, 2, 6, 10, 11].contains(&number) {
+                    for way in ways {
+                        let mut call = call.clone();
+                        way(&mut call);
+                        call.answers(number);
+                    }
+                }
+            }
+            for bytes in [1, 39, 40, 2560] {
+                let mut call = call.clone();
+                call.records.resize(bytes, 1);
+                call.answers(9);
+            }
+            for n in [1025, WIDE, MAX] {
+                let mut call = call.clone();
+                call.held.n = n;
+                call.answers(5);
+            }
+        }
+    }
+}
