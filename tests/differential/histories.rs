@@ -278,6 +278,7 @@ impl History {
             Saved::NoPlace => (7, 0),
             Saved::Full => (8, 0),
             Saved::Stale(rounds) => (11, rounds),
+            Saved::NoSet => (14, 0),
         };
         let count = plain.records.len();
         let want = Answer {

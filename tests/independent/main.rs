@@ -4,9 +4,11 @@
 //! of a sheet's content, `brine` the brine statement over a batch of sheets, and `mend` finds the spoiled
 //! marks of a sheet.
 
+mod batch;
 mod bits;
 mod brine;
 mod check;
+mod check_batch;
 mod check_bits;
 mod check_brine;
 mod check_mend;

@@ -4,17 +4,14 @@
 
 use crate::luffa::{Luffa, CODES};
 use crate::output::holding;
-use crate::sheet::{Mark, Record, Sheet, GROUP, MARK_WORDS, MOST, RECORD_BYTES};
+use crate::sheet::{no_marks, no_sheet, Mark, Record, Sheet, GROUP};
 
 /// Every refusal that holds, in the request's order. The sheet's length is in bytes, the marks' in words.
 pub fn refusals(code: usize, sheet_len: usize, n: usize, marks_len: usize) -> Vec<u64> {
-    let records = n as u128;
-    let marks = records / GROUP as u128 + 1;
-    let no_sheet = (sheet_len as u128) < RECORD_BYTES as u128 * records;
     holding([
         (1, !(1..=CODES.len()).contains(&code)),
-        (5, n > MOST || no_sheet),
-        (6, (marks_len as u128) < MARK_WORDS as u128 * marks),
+        (5, no_sheet(n, sheet_len)),
+        (6, no_marks(n, marks_len)),
     ])
 }
 

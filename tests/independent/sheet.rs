@@ -30,12 +30,25 @@ pub enum Saved {
     Full,
     /// 11
     Stale(u64),
+    /// 14
+    NoSet,
+}
+
+/// 5, of n records in a buffer of so many bytes.
+pub fn no_sheet(n: usize, bytes: usize) -> bool {
+    n > MOST || (bytes as u128) < RECORD_BYTES as u128 * n as u128
+}
+
+/// 6, of n records and so many words for their marks.
+pub fn no_marks(n: usize, words: usize) -> bool {
+    let marks = n as u128 / GROUP as u128 + 1;
+    (words as u128) < MARK_WORDS as u128 * marks
 }
 
 impl Sheet {
     /// The digest of the whole sheet, hashed from its first byte on, and how many of the rounds are
     /// run after mark m.
-    fn hashed(&self, m: usize) -> (Vec<u8>, u64) {
+    pub fn hashed(&self, m: usize) -> (Vec<u8>, u64) {
         let (w, count) = CODES[self.code - 1];
         let (before, after) = self.records.split_at(GROUP * m);
         let mut hash = Luffa::new(w);
@@ -82,7 +95,7 @@ impl Sheet {
     }
 
     /// The rounds in which the claim is found to be the digest, or else the stale save.
-    fn check(&self, claim: &[u8]) -> Result<u64, Saved> {
+    pub fn check(&self, claim: &[u8]) -> Result<u64, Saved> {
         let (digest, rounds) = self.hashed(self.last_mark());
         if digest == claim {
             Ok(rounds)
