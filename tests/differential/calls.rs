@@ -42,6 +42,22 @@ extern "C" {
         out: *mut u8,
         out_len: usize,
     ) -> Answer;
+    fn luffa_sheet_batch(
+        code: usize,
+        sheet: *mut u8,
+        sheet_len: usize,
+        n: usize,
+        marks: *mut u32,
+        marks_len: usize,
+        places: *const usize,
+        places_len: usize,
+        records: *const u8,
+        records_len: usize,
+        claim: *const u8,
+        claim_len: usize,
+        out: *mut u8,
+        out_len: usize,
+    ) -> Answer;
     fn luffa_sheet_append(
         code: usize,
         sheet: *mut u8,
@@ -166,29 +182,46 @@ pub fn agree<T: PartialEq + Debug>(
     Err(format!("{call}\n{different}"))
 }
 
-// Each function below leaves in the buffers what both sides left there.
+/// What the sheet calls are lent: the sheet, the marks, the record, the places and their records, the claim and
+/// the output.
+fn lend(given: &Given) -> [Lent; 7] {
+    let places = given.places.iter().map(|place| place.to_ne_bytes());
+    [
+        Lent::new(&given.sheet),
+        Lent::words(&given.marks),
+        Lent::new(&given.record),
+        Lent::elements(places.collect()),
+        Lent::new(&given.records),
+        Lent::new(&given.claim),
+        Lent::new(&given.out),
+    ]
+}
 
-pub fn sheet(call: Call, given: &mut Given) -> Result<Answer, String> {
-    let before = given.clone();
-    let want = sheet_model::answer(call, given);
-    let (mut s, mut m) = (Lent::new(&before.sheet), Lent::words(&before.marks));
-    let (mut r, mut c) = (Lent::new(&before.record), Lent::new(&before.claim));
-    let mut o = Lent::new(&before.out);
-    let (code, n) = (before.code, before.n);
-    let (sheet, sheet_len) = (s.pointer(), before.sheet.len());
-    let (marks, marks_len) = (m.pointer().cast(), before.marks.len());
-    let (record, record_len) = (r.pointer(), before.record.len());
-    let (claim, claim_len) = (c.pointer(), before.claim.len());
-    let (out, out_len) = (o.pointer(), before.out.len());
+/// The archive's answer, and what was lent as it left it.
+fn archive(call: Call, given: &Given) -> (Answer, [Lent; 7]) {
+    let mut lent = lend(given);
+    let [sheet, marks, record, places, records, claim, out] = lent.each_mut().map(Lent::pointer);
+    let (code, n) = (given.code, given.n);
+    let sheet_len = given.sheet.len();
+    let (marks, marks_len) = (marks.cast(), given.marks.len());
+    let record_len = given.record.len();
+    let (places, places_len) = (places.cast(), given.places.len());
+    let records_len = given.records.len();
+    let claim_len = given.claim.len();
+    let out_len = given.out.len();
     #[rustfmt::skip]
-    let got = unsafe {
+    let answer = unsafe {
         match call {
             Call::Build => luffa_sheet_build(
                 code, sheet, sheet_len, n, marks, marks_len, out, out_len,
             ),
             Call::Change => luffa_sheet_change(
-                code, sheet, sheet_len, n, marks, marks_len, before.place, record, record_len,
+                code, sheet, sheet_len, n, marks, marks_len, given.place, record, record_len,
                 claim, claim_len, out, out_len,
+            ),
+            Call::Batch => luffa_sheet_batch(
+                code, sheet, sheet_len, n, marks, marks_len, places, places_len, records,
+                records_len, claim, claim_len, out, out_len,
             ),
             Call::Append => luffa_sheet_append(
                 code, sheet, sheet_len, n, marks, marks_len, record, record_len, claim, claim_len,
@@ -199,30 +232,41 @@ pub fn sheet(call: Call, given: &mut Given) -> Result<Answer, String> {
             ),
         }
     };
-    let words = |words: &[u32]| Lent::words(words).inside().to_vec();
+    (answer, lent)
+}
+
+/// A change that the archive makes alone, and what it left.
+pub fn change(given: &mut Given) -> Answer {
+    let (answer, [sheet, marks, .., out]) = archive(Call::Change, given);
+    given.sheet = sheet.inside().to_vec();
+    let words = marks.inside().as_chunks().0.iter();
+    given.marks = words.map(|&word| u32::from_ne_bytes(word)).collect();
+    given.out = out.inside().to_vec();
+    answer
+}
+
+// Each function below leaves in the buffers what both sides left there.
+
+pub fn sheet(call: Call, given: &mut Given) -> Result<Answer, String> {
+    let before = lend(given);
+    let (code, n, place) = (given.code, given.n, given.place);
+    let (got, lent) = archive(call, given);
+    let want = sheet_model::answer(call, given);
+    let after = lend(given);
     let what = format!(
-        "{call:?} at code {code}, n = {n}, place {}: buffer 0 the sheet, 1 the marks, 2 the record, \
-         3 the claim, 4 the output",
-        before.place
+        "{call:?} at code {code}, n = {n}, place {place}: buffer 0 the sheet, 1 the marks, 2 the record, \
+         3 the places, 4 their records, 5 the claim, 6 the output"
     );
+    let left: Vec<(Lent, &[u8])> = lent
+        .into_iter()
+        .zip(after.each_ref().map(Lent::inside))
+        .collect();
     agree(
         &what,
-        &[
-            &before.sheet,
-            &words(&before.marks),
-            &before.record,
-            &before.claim,
-            &before.out,
-        ],
+        &before.each_ref().map(Lent::inside),
         got,
         want,
-        &[
-            (s, &given.sheet),
-            (m, &words(&given.marks)),
-            (r, &before.record),
-            (c, &before.claim),
-            (o, &given.out),
-        ],
+        &left,
     )
 }
 

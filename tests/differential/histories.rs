@@ -3,18 +3,26 @@
 //! call goes through calls.rs; while the marks are true, the plain sheet of the separately written program
 //! is held beside it.
 
-use crate::calls;
-use crate::luffa::CODES;
 use crate::mend_model::{MendAnswer, Mending};
 use crate::mends::{self, WAYS};
 use crate::met::{answer_kinds, Met};
-use crate::model::digest_bytes;
+use crate::model::{digest_bytes, state_words};
 use crate::sheet::{Saved, Sheet, MARK_WORDS, MOST, RECORD_BYTES};
 use crate::sheet_model::{held, refusals, Answer, Call, Given};
+use crate::{batch, batches, calls};
 use crate::{Agreed, Numbers};
 use std::cmp::Ordering::Equal;
 
-const CALLS: [Call; 4] = [Call::Build, Call::Change, Call::Append, Call::Drop];
+const CALLS: [Call; 5] = [
+    Call::Build,
+    Call::Change,
+    Call::Append,
+    Call::Drop,
+    Call::Batch,
+];
+
+/// The calls whose arguments are spoiled here. Batches have cases of their own for that, in batches.rs.
+const SPOILED: &[Call] = CALLS.split_at(4).0;
 
 impl Met {
     /// Counts what a call was: the number answered, and the refusals that hold.
@@ -89,7 +97,7 @@ fn wanted() -> Vec<String> {
         let refusals: Vec<u64> = numbers
             .iter()
             .copied()
-            .filter(|n| (1..=10).contains(n))
+            .filter(|n| ![0, 11].contains(n))
             .collect();
         kinds.extend(answer_kinds(&format!("{call:?}"), numbers, &refusals));
         for n in EDGES {
@@ -131,20 +139,22 @@ const IMPOSSIBLE: [&str; 7] = [
     "Drop done, n = 0",
 ];
 
-/// The numbers that document 01 lets a call give.
+/// The numbers that the documents let a call give, the refusals in their order.
 fn numbers_of(call: Call) -> &'static [u64] {
     match call {
         Call::Build => &[0, 1, 2, 5, 6],
         Call::Change => &[0, 1, 2, 5, 6, 7, 9, 10, 11],
+        Call::Batch => &[0, 1, 2, 5, 6, 14, 7, 9, 10, 11],
         Call::Append => &[0, 1, 2, 5, 6, 8, 9, 10, 11],
         Call::Drop => &[0, 1, 2, 5, 6, 7, 10, 11],
     }
 }
 
 /// A sheet under way.
-struct History {
-    code: usize,
-    n: usize,
+#[derive(Clone)]
+pub struct History {
+    pub code: usize,
+    pub n: usize,
     sheet: Vec<u8>,
     marks: Vec<u32>,
     /// The plain sheet, while the marks are true, and its digest.
@@ -201,9 +211,41 @@ fn any_sheet(numbers: &mut Numbers) -> History {
     }
 }
 
+/// The first mark of which the words that the code uses aren't those of the plain sheet.
+fn untrue(plain: &Sheet, marks: &[u32]) -> Option<usize> {
+    let used = state_words(plain.code);
+    let truth = plain.marks();
+    (0..truth.len()).find(|&m| marks[MARK_WORDS * m..][..used] != truth[m][..used])
+}
+
 impl History {
-    /// A call as the planner means it, its record any bytes or at times those held.
-    fn given(&self, numbers: &mut Numbers, planner: usize) -> Given {
+    /// A sheet and its marks as they were found, of which no planner knows the digest.
+    pub fn found(held: Mending) -> History {
+        let plain = held.plain();
+        let true_marks = untrue(&plain, &held.marks).is_none();
+        History {
+            code: held.code,
+            n: held.n,
+            sheet: held.sheet,
+            marks: held.marks,
+            plain: true_marks.then_some(plain),
+            digest: vec![],
+            mended: false,
+            seen: [vec![], vec![]],
+        }
+    }
+
+    /// A new record for the place: any bytes, or so many times in ten those held.
+    fn record(&self, numbers: &mut Numbers, place: usize, times: usize) -> Vec<u8> {
+        let mut held = self.sheet[..RECORD_BYTES * self.n].chunks(RECORD_BYTES);
+        match held.nth(place) {
+            Some(held) if numbers.between(1, 10) <= times => held.to_vec(),
+            _ => numbers.bytes(RECORD_BYTES),
+        }
+    }
+
+    /// A call as the planner means it.
+    pub fn given(&self, numbers: &mut Numbers, planner: usize) -> Given {
         let place = match self.n {
             0 => 0,
             n => {
@@ -213,29 +255,36 @@ impl History {
         };
         let d = digest_bytes(self.code);
         let out = numbers.one_of(&[d, d, d + 1, 100]);
-        let same = self.n > 0 && numbers.between(0, 9) == 0;
+        let places = numbers.places(self.n);
+        let times = numbers.one_of(&[0, 0, 0, 0, 5, 10]);
+        let records = places
+            .iter()
+            .flat_map(|&place| self.record(numbers, place, times))
+            .collect();
         Given {
             code: self.code,
             sheet: self.sheet.clone(),
             n: self.n,
             marks: self.marks.clone(),
             place,
-            record: match same {
-                true => self.sheet[RECORD_BYTES * place..][..RECORD_BYTES].to_vec(),
-                false => numbers.bytes(RECORD_BYTES),
-            },
+            record: self.record(numbers, place, 1),
+            places,
+            records,
             claim: self.seen[planner].clone(),
             out: numbers.bytes(out),
         }
     }
 
     /// Makes the call on both sides, judges it by the plain sheet too, and takes over what it left.
-    fn call(&mut self, call: Call, mut given: Given, met: &mut Met) -> Result<Answer, String> {
+    pub fn call(&mut self, call: Call, mut given: Given, met: &mut Met) -> Result<Answer, String> {
         let before = given.clone();
         let hold = refusals(call, &given);
         let answer = calls::sheet(call, &mut given)?;
         let number = answer.number;
         met.note(call, &before, number, &hold, self.plain.is_none());
+        if call == Call::Batch {
+            batches::judge(&before, &given, &answer, self.plain.is_some(), met)?;
+        }
         // A call that was lent less of a buffer leaves the rest of it as it was.
         if number == 0 {
             self.n = given.n;
@@ -253,7 +302,7 @@ impl History {
                 _ => (),
             }
         }
-        if number == 0 || number == 11 || hold == [7] {
+        if matches!(hold[..], [] | [7] | [14] | [14, 7]) {
             self.plain_agrees(call, &before, &answer, &given.out)?;
         }
         Ok(answer)
@@ -270,6 +319,11 @@ impl History {
         let saved = match call {
             Call::Build => Saved::Done(plain.build()),
             Call::Change => plain.change(before.place, record(), claim),
+            Call::Batch => {
+                let records = before.records.as_chunks().0.iter().copied();
+                let changes: Vec<_> = before.places.iter().copied().zip(records).collect();
+                batch::save(plain, &changes, claim)
+            }
             Call::Append => plain.append(record(), claim),
             Call::Drop => plain.drop(claim),
         };
@@ -299,13 +353,10 @@ impl History {
         if number == 0 && !out.starts_with(&self.digest) {
             return Err(format!("{what}: another digest than the plain sheet's\n"));
         }
-        let used = 8 * CODES[self.code - 1].0;
-        for (m, mark) in plain.marks().iter().enumerate() {
-            if self.marks[MARK_WORDS * m..][..used] != mark[..used] {
-                return Err(format!("{what}: mark {m} isn't the plain sheet's\n"));
-            }
+        match untrue(plain, &self.marks) {
+            Some(m) => Err(format!("{what}: mark {m} isn't the plain sheet's\n")),
+            None => Ok(()),
         }
-        Ok(())
     }
 
     fn mending(&self) -> Mending {
@@ -321,13 +372,13 @@ impl History {
     /// marks are wrong, so true ones are left as they are. From here on saves go on as if nothing had happened.
     fn mend(&mut self, numbers: &mut Numbers, met: &mut Met) -> Agreed {
         let mut given = self.mending();
-        let plain = given.plain();
-        let (marks, _) = given.marks[..words_for(self.n)].as_chunks_mut();
         let spoil = numbers.between(0, 1) == 0;
         if spoil {
             let way = numbers.one_of(&WAYS);
-            numbers.spoil_marks(way, &plain, marks);
+            numbers.spoil_marks(way, &mut given);
         }
+        let plain = given.plain();
+        let (marks, _) = given.marks.as_chunks::<MARK_WORDS>();
         let truth = plain.marks();
         let wrong: Vec<usize> = (0..truth.len()).filter(|&m| marks[m] != truth[m]).collect();
         let want = MendAnswer {
@@ -416,7 +467,7 @@ impl History {
         let call = numbers.one_of(&CALLS[1..]);
         let d = digest_bytes(self.code);
 
-        let used = 8 * CODES[self.code - 1].0;
+        let used = state_words(self.code);
         let some_mark = MARK_WORDS * numbers.between(0, self.n / 4);
         match numbers.between(0, 19) {
             0 => {
@@ -450,7 +501,7 @@ impl History {
                 for _ in 0..numbers.one_of(&[1, 2, 3, 4]) {
                     self.spoil(&mut given, numbers);
                 }
-                let call = numbers.one_of(&CALLS);
+                let call = numbers.one_of(SPOILED);
                 self.call(call, given, met)?;
                 return Ok(());
             }

@@ -1,7 +1,9 @@
 //! The archive against a model of its calls over the separately written program, on random messages,
-//! cuts, records, numbers of words, sheets, marks, plans and batches: differential [SEED [CASES]]. Case k of a
+//! cuts, records, numbers of words, sheets, marks, sets of changes, plans and batches of them: differential [SEED [CASES]]. Case k of a
 //! seed is case 0 of the seed k higher, so that one that failed is run again alone.
 
+mod batch_kinds;
+mod batches;
 mod brine_kinds;
 mod brine_model;
 mod brines;
@@ -23,6 +25,8 @@ mod plan_model;
 mod plans;
 mod sheet_model;
 
+#[path = "../independent/batch.rs"]
+mod batch;
 #[path = "../independent/bits.rs"]
 #[allow(dead_code)]
 mod bits;
@@ -118,6 +122,9 @@ const OUTPUTS: usize = 4;
 /// The sheets of a case whose marks are mended.
 const MENDS: usize = 2;
 
+/// The sheets of a case that are changed in many places by one save.
+const BATCHES: usize = 1;
+
 /// The plans of a case.
 const PLANS: usize = 6;
 
@@ -138,6 +145,9 @@ fn case(seed: u64, met: &mut Met) -> Agreed {
     histories::history(numbers, met)?;
     for _ in 0..MENDS {
         mends::mend(numbers, met)?;
+    }
+    for _ in 0..BATCHES {
+        batches::batch(numbers, met)?;
     }
     for _ in 0..PLANS {
         plans::plan(numbers, met)?;
@@ -168,6 +178,7 @@ fn main() {
         hash_kinds::print(&met),
         output_kinds::print(&met),
         histories::print(&met),
+        batch_kinds::print(&met),
         mend_kinds::print(&met),
         plan_kinds::print(&met),
         brine_kinds::print(&met),

@@ -7,7 +7,7 @@ use crate::mends::{Way, FEWER_WORDS, WAYS};
 use crate::met::{answer_kinds, Met};
 use crate::model::state_words;
 use crate::outputs::NO_CODES;
-use crate::plan_kinds::LENGTHS;
+use crate::plan_kinds::{See, LENGTHS};
 use crate::plans::{TOO_MANY, TOO_SHORT};
 use crate::sheet::{MARK_WORDS, RECORD_BYTES};
 
@@ -98,9 +98,26 @@ pub fn print(met: &Met) -> Vec<String> {
 
 const NUMBERS: [u64; 4] = [0, 1, 5, 6];
 
+/// What any call must meet that has a code, a sheet and its marks.
+pub fn want_refused(want: See) {
+    for code in NO_CODES {
+        want(format!("refused: code {code}"));
+    }
+    for (name, _) in TOO_MANY {
+        want(format!("refused: n is {name}"));
+    }
+    want("refused: 1,025 with room".into());
+    for (name, _) in TOO_SHORT {
+        want(format!("refused: sheet {name} short"));
+    }
+    for (name, _) in FEWER_WORDS {
+        want(format!("refused: marks {name} short"));
+    }
+}
+
 fn wanted() -> Vec<String> {
     let mut kinds = answer_kinds("Mend", &NUMBERS, &NUMBERS[1..]);
-    let mut want = |what: String| kinds.push(format!("Mend {what}"));
+    let want: See = &mut |what| kinds.push(format!("Mend {what}"));
     for n in (0..=FEW).chain(EDGES) {
         want(format!("done, n = {n}"));
     }
@@ -127,18 +144,6 @@ fn wanted() -> Vec<String> {
     }
     want("wrong over 255".into());
     want("first over 255".into());
-    for code in NO_CODES {
-        want(format!("refused: code {code}"));
-    }
-    for (name, _) in TOO_MANY {
-        want(format!("refused: n is {name}"));
-    }
-    want("refused: 1,025 with room".into());
-    for (name, _) in TOO_SHORT {
-        want(format!("refused: sheet {name} short"));
-    }
-    for (name, _) in FEWER_WORDS {
-        want(format!("refused: marks {name} short"));
-    }
+    want_refused(want);
     kinds
 }

@@ -62,7 +62,9 @@ impl Numbers {
     }
 
     /// Spoils the marks of a sheet.
-    pub fn spoil_marks(&mut self, way: Way, plain: &Sheet, marks: &mut [Mark]) {
+    pub fn spoil_marks(&mut self, way: Way, given: &mut Mending) {
+        let plain = given.plain();
+        let marks: &mut [Mark] = given.marks[..words_for(given.n)].as_chunks_mut().0;
         let last = marks.len() - 1;
         let any = self.between(0, last);
         let used = state_words(plain.code);
@@ -116,9 +118,8 @@ impl Numbers {
         }
     }
 
-    /// A sheet of any records and its true marks; what lies behind either is any bytes and words.
-    fn sheet_and_marks(&mut self) -> Mending {
-        let n = self.marked();
+    /// A sheet of n any records and its true marks; what lies behind either is any bytes and words.
+    pub fn sheet_and_marks(&mut self, n: usize) -> Mending {
         let sheet = RECORD_BYTES * n + self.one_of(&[0, 0, 0, 1, 39, 40, 200]);
         let marks = words_for(n) + self.one_of(&[0, 0, 0, 1, 39, 40, 85]);
         let mut given = Mending {
@@ -143,38 +144,46 @@ impl Numbers {
             ways.push(format!("code {}", given.code));
         }
         if hold & sheet != 0 {
-            ways.push(self.refuse_sheet(given));
+            ways.push(self.refuse_sheet(&mut given.n, &mut given.sheet, &mut given.marks));
         }
         if hold & marks != 0 {
-            let (name, fewer) = self.one_of(&FEWER_WORDS);
-            given.marks.truncate(words_for(n).saturating_sub(fewer));
-            ways.push(format!("marks {name} short"));
+            ways.push(self.refuse_marks(n, &mut given.marks));
         }
         ways
     }
 
-    fn refuse_sheet(&mut self, given: &mut Mending) -> String {
-        let n = given.n;
+    /// Has n records be too many, or the sheet too short for them.
+    pub fn refuse_sheet(
+        &mut self,
+        n: &mut usize,
+        sheet: &mut Vec<u8>,
+        marks: &mut Vec<u32>,
+    ) -> String {
         match self.between(0, 2) {
-            0 if n > 0 => {
+            0 if *n > 0 => {
                 let (name, short) = self.one_of(&TOO_SHORT);
-                given
-                    .sheet
-                    .truncate((RECORD_BYTES * n).saturating_sub(short));
+                sheet.truncate((RECORD_BYTES * *n).saturating_sub(short));
                 format!("sheet {name} short")
             }
             1 => {
-                given.n = MOST + 1;
-                given.sheet.resize(RECORD_BYTES * given.n, 0);
-                given.marks.resize(words_for(given.n), 0);
+                *n = MOST + 1;
+                sheet.resize(RECORD_BYTES * *n, 0);
+                marks.resize(words_for(*n), 0);
                 "1,025 with room".into()
             }
             _ => {
                 let (name, many) = self.one_of(&TOO_MANY);
-                given.n = many + if name.ends_with('n') { n } else { 0 };
+                *n = many + if name.ends_with('n') { *n } else { 0 };
                 format!("n is {name}")
             }
         }
+    }
+
+    /// Has the marks be too few for n records.
+    pub fn refuse_marks(&mut self, n: usize, marks: &mut Vec<u32>) -> String {
+        let (name, fewer) = self.one_of(&FEWER_WORDS);
+        marks.truncate(words_for(n).saturating_sub(fewer));
+        format!("marks {name} short")
     }
 }
 
@@ -196,16 +205,15 @@ pub fn call(given: &mut Mending, met: &mut Met) -> Result<MendAnswer, String> {
 
 /// A sheet whose marks are spoiled and mended, and then at times what is refused of it.
 pub fn mend(numbers: &mut Numbers, met: &mut Met) -> Agreed {
-    let mut given = numbers.sheet_and_marks();
+    let n = numbers.marked();
+    let mut given = numbers.sheet_and_marks(n);
     let any = numbers.one_of(&WAYS);
     // There are few large sheets, and their last mark is the only one whose number passes a byte.
     let way = match given.n {
         MOST => numbers.one_of(&[Way::Last, Way::All, any]),
         _ => any,
     };
-    let plain = given.plain();
-    let (marks, _) = given.marks[..words_for(given.n)].as_chunks_mut();
-    numbers.spoil_marks(way, &plain, marks);
+    numbers.spoil_marks(way, &mut given);
     met.see(format!("Mend {way:?}, code {}", given.code));
 
     let mut spoilt = given.clone();

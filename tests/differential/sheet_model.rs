@@ -1,6 +1,7 @@
-//! The sheet calls by document 01's text: from what is lent to the answer and what the buffers then
-//! hold, refusals included. Marks are taken as they are found, true or false.
+//! The sheet calls by document 01's text, and many changes in one save by document 02's: from what is lent to
+//! the answer and what the buffers then hold, refusals included. Marks are taken as they are found, true or false.
 
+use crate::batch::{self, Lengths};
 use crate::luffa::{Luffa, CODES};
 use crate::model::{bytes_of, digest_bytes, known};
 use crate::sheet::{MARK_WORDS, MOST, RECORD_BYTES};
@@ -9,11 +10,13 @@ use crate::sheet::{MARK_WORDS, MOST, RECORD_BYTES};
 pub enum Call {
     Build,
     Change,
+    Batch,
     Append,
     Drop,
 }
 
-/// What a call is given and lent. A build uses no claim, and only a change a place.
+/// What a call is given and lent. A build uses no claim, only a change a place, and only a batch places and their
+/// records.
 #[derive(Clone)]
 pub struct Given {
     pub code: usize,
@@ -22,6 +25,8 @@ pub struct Given {
     pub marks: Vec<u32>,
     pub place: usize,
     pub record: Vec<u8>,
+    pub places: Vec<usize>,
+    pub records: Vec<u8>,
     pub claim: Vec<u8>,
     pub out: Vec<u8>,
 }
@@ -47,9 +52,25 @@ fn too_small(given: &Given, n: u128) -> (bool, bool) {
     )
 }
 
-/// Every refusal that holds, but for 11, which is judged only where no other holds.
+/// The refusals of a batch that hold.
+fn batch_refusals(given: &Given) -> Vec<u64> {
+    let lent = Lengths {
+        out: given.out.len(),
+        sheet: given.sheet.len(),
+        n: given.n,
+        marks: given.marks.len(),
+        records: given.records.len(),
+        claim: given.claim.len(),
+    };
+    batch::refusals(given.code, &given.places, lent)
+}
+
+/// Every refusal that holds, in the call's order, but for 11, which is judged only where no other holds.
 pub fn refusals(call: Call, given: &Given) -> Vec<u64> {
     use Call::*;
+    if call == Batch {
+        return batch_refusals(given);
+    }
     let n = given.n as u128;
     let digest = known(given.code).then(|| digest_bytes(given.code));
     let (sheet, marks) = too_small(given, n);
@@ -121,16 +142,15 @@ pub fn answer(call: Call, given: &mut Given) -> Answer {
         count: given.n as u64,
         rounds,
     };
-    if let Some(&lowest) = refusals(call, given).iter().min() {
-        return refused(lowest, 0);
+    if let Some(&first) = refusals(call, given).first() {
+        return refused(first, 0);
     }
-    let mut check = 0;
+    let mut checked = (vec![], 0);
     if call != Call::Build {
-        let (digest, rounds) = held(given);
-        if digest != given.claim {
-            return refused(11, rounds);
+        checked = held(given);
+        if checked.0 != given.claim {
+            return refused(11, checked.1);
         }
-        check = rounds;
     }
     let (n, q) = (given.n, given.n / 4);
     let place = |i: usize| RECORD_BYTES * i..RECORD_BYTES * (i + 1);
@@ -139,30 +159,40 @@ pub fn answer(call: Call, given: &mut Given) -> Answer {
         Call::Build => {
             let start = Luffa::new(CODES[given.code - 1].0);
             given.marks[mark(0)].copy_from_slice(&start.state());
-            (n, 0)
+            (n, Some(0))
         }
         Call::Change => {
             given.sheet[place(given.place)].copy_from_slice(&given.record);
-            (n, given.place / 4)
+            (n, Some(given.place / 4))
+        }
+        Call::Batch => {
+            for (&i, record) in given.places.iter().zip(given.records.chunks(RECORD_BYTES)) {
+                given.sheet[place(i)].copy_from_slice(record);
+            }
+            (n, given.places.first().map(|i| i / 4))
         }
         Call::Append => {
             given.sheet[place(n)].copy_from_slice(&given.record);
-            (n + 1, q)
+            (n + 1, Some(q))
         }
         Call::Drop => {
             given.sheet[place(n - 1)].fill(0);
             if n % 4 == 0 {
                 given.marks[mark(q)].fill(0);
             }
-            (n - 1, (n - 1) / 4)
+            (n - 1, Some((n - 1) / 4))
         }
     };
-    let (digest, rounds) = work(given.code, &given.sheet, count, &mut given.marks, from);
+    // An empty batch has the digest of the check, and nothing to work on from.
+    let (digest, rounds) = match from {
+        Some(m) => work(given.code, &given.sheet, count, &mut given.marks, m),
+        None => (checked.0, 0),
+    };
     given.out[..digest.len()].copy_from_slice(&digest);
     given.n = count;
     Answer {
         number: 0,
         count: count as u64,
-        rounds: check + rounds,
+        rounds: checked.1 + rounds,
     }
 }
