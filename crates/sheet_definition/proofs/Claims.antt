@@ -54,7 +54,7 @@ restores w n sheet place claim out t m l f b e =
     }
 
 -- a digest has the length that its code names
-length-luffa : (code : ℕ) (m : List ℕ) → length (luffa code m) ≡ bytesAt code
+pub length-luffa : (code : ℕ) (m : List ℕ) → length (luffa code m) ≡ bytesAt code
 unfolding luffa luffaOfBits luffaOutput outputOfBits bytesAt
 length-luffa code m = length-output code (wordsAt code) _
 

@@ -58,6 +58,28 @@ without-last n marks h l =
       | no e ↦ rw (zeroes-none n marks e) (search, λ m f g. absurd (omega arith))
     ]
 
+-- many records written at places that rise
+pub many-fair : (w : World) (places x out : List ℕ) → Fits w out → rising places ≡ true → Below (w .n) places
+    → length x ≡ recordBytes * length places → Fair w (manyRecords w places x)
+unfolding manyRecords
+many-fair w places x out f u b e =
+    let h : pastHighest (w .n) places ≤ w .n = highest-held (w .n) (w .n) places (omega arith) b in
+    let k = kept (lowest (w .n) places) (pastHighest (w .n) places) places x (w .sheet) (within (w .n) places u) (omega (arith, f .sheet-room)) e in
+    record {
+      sheet-size = k .size;
+      before = k .before;
+      behind = k .behind;
+      first-held = lowest-held (w .n) places b;
+      first-left = lowest-held (w .n) places b;
+      past-held = omega arith;
+      few = f .count;
+      new-sheet-room = f .sheet-room;
+      new-marks-room = f .marks-room;
+      marks = search;
+      bytes-freed = λ k i j. absurd (omega arith);
+      words-freed = λ m i j. absurd (omega arith);
+    }
+
 -- every save's refusals begin with those of a build and end with the claim's length
 module _ (w : World) (c : Call) where
   abbrev refusals : Kind → List Refusal
@@ -145,25 +167,7 @@ module _ (w : World) (c : Call) where
       (omega (arith, f .count)) (omega (arith, f .sheet-room)) (unfold q in omega (arith, f .marks-room)) (m .0)
       (λ k i j. let n : k ≡ w .n - 1 = omega arith in rw n (read-written (recordBytes * (w .n - 1)) recordBytes z (w .sheet) s (omega (arith, f .sheet-room))))
       (m .1)
-  fair (Batch places x) e =
-      let f : Fits w (c .out) = room (Batch places x) e in
-      let m : Many places x = many places x e in
-      let h : pastHighest (w .n) places ≤ w .n = highest-held (w .n) (w .n) places (omega arith) (m .below) in
-      let k = kept (lowest (w .n) places) (pastHighest (w .n) places) places x (w .sheet) (within (w .n) places (m .rise)) (omega (arith, f .sheet-room)) (m .sizes) in
-      record {
-        sheet-size = k .size;
-        before = k .before;
-        behind = k .behind;
-        first-held = lowest-held (w .n) places (m .below);
-        first-left = lowest-held (w .n) places (m .below);
-        past-held = omega arith;
-        few = f .count;
-        new-sheet-room = f .sheet-room;
-        new-marks-room = f .marks-room;
-        marks = search;
-        bytes-freed = λ k i j. absurd (omega arith);
-        words-freed = λ m i j. absurd (omega arith);
-      }
+  fair (Batch places x) e = many-fair w places x (c .out) (room (Batch places x) e) (many places x e .rise) (many places x e .below) (many places x e .sizes)
 
   pub proper : Proper w (saveOf w c)
   unfolding saveOf

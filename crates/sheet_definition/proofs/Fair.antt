@@ -6,11 +6,11 @@ use mathlib.Core.List.{List, _++_, append-assoc}
 use Prim.Native.Nat.{ℕ, _+_, _-_, _*_, _<_, _≤_}
 use native.Mathlib.Omega.{arith}
 use lib.ListN.{length, take, drop, replicate}
-use lib.Seq.{length-take-le, take-at, drop-at}
+use lib.Seq.{length-take-le, take-take, take-at, drop-at}
 use Rattle.definition.specs.Buffer.{Every, overwriteAt}
 use Rattle.definition.specs.Refusal.{firstOf}
 use Rattle.definition.specs.Luffa.{bytesAt}
-use Rattle.sheet_definition.specs.Sheet.{World, most, recordBytes, markWords, q}
+use Rattle.sheet_definition.specs.Sheet.{World, most, recordBytes, groupBytes, markWords, q}
 use Rattle.sheet_definition.specs.Marks.{markAt}
 use Rattle.sheet_definition.specs.Save.{Edit, Save}
 use Rattle.sheet_definition.specs.SheetCalls.{oneRecord}
@@ -76,3 +76,13 @@ one-fair w place x count marks e a b c d f g h r s t =
       bytes-freed = s;
       words-freed = t;
     }
+
+-- the groups before that of an edit's first record are as they were
+pub groups-stay : (w : World) (e : Edit) → Fair w e → take (groupBytes * q (e .first)) (e .sheet) ≡ take (groupBytes * q (e .first)) (w .sheet)
+unfolding q
+groups-stay w e f =
+    rw (
+      ← take-take (groupBytes * q (e .first)) (recordBytes * e .first) (e .sheet) (omega arith),
+      f .before,
+      take-take (groupBytes * q (e .first)) (recordBytes * e .first) (w .sheet) (omega arith),
+    )

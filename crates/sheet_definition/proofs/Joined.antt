@@ -34,7 +34,7 @@ joined-take (x ∷ rs) (suc k) f =
     rw (joined-take rs k (f .1), e, take-append-add x (joined rs) (recordBytes * k))
 
 -- a piece written behind the front of a list
-overwrite-behind : (y : List ℕ) (i : ℕ) (p l : List ℕ) → overwriteAt (length y + i) p (y ++ l) ≡ y ++ overwriteAt i p l
+pub overwrite-behind : (y : List ℕ) (i : ℕ) (p l : List ℕ) → overwriteAt (length y + i) p (y ++ l) ≡ y ++ overwriteAt i p l
 unfolding overwriteAt
 overwrite-behind y i p l =
     rw (take-append-add y l i, add-assoc (length y) i (length p), drop-append-add y l (i + length p))
@@ -50,7 +50,7 @@ joined-set (y ∷ rs) (suc p) x e f h =
     rw (joined-set rs p x e (f .1) (omega arith), j) (sym (overwrite-behind y (recordBytes * p) x (joined rs)))
 
 -- a piece written into the front of a list
-overwrite-append : (i : ℕ) (p l r : List ℕ) → i + length p ≤ length l → overwriteAt i p (l ++ r) ≡ overwriteAt i p l ++ r
+pub overwrite-append : (i : ℕ) (p l r : List ℕ) → i + length p ≤ length l → overwriteAt i p (l ++ r) ≡ overwriteAt i p l ++ r
 unfolding overwriteAt
 overwrite-append i p l r h =
     let j : i ≤ length l = omega arith in

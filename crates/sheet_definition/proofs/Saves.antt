@@ -32,7 +32,7 @@ use Rattle.sheet_definition.proofs.Writes.{same-refl, same-eq, marks-ke
 use Rattle.sheet_definition.proofs.Marks.{state-of-mark, digest-from-mark, rounds-from-mark, mark-written, marks-after-work}
 use Rattle.sheet_definition.proofs.Outcomes.{isStale, accepted, by-answer, done-exactly, stale-exactly}
 use Rattle.sheet_definition.proofs.Refused.{Fits}
-use Rattle.sheet_definition.proofs.Fair.{Fair, Proper}
+use Rattle.sheet_definition.proofs.Fair.{Fair, Proper, groups-stay}
 
 -- the state after the groups before a mark, where these are as they were
 same-state : (code m k : ℕ) (sheet' sheet : List ℕ) → take (groupBytes * m) sheet' ≡ take (groupBytes * m) sheet → k ≤ m
@@ -169,22 +169,12 @@ module _ (w : World) (s : Save) (p : Proper w s) where
           let e : recordBytes * k ≡ n + (recordBytes * k - n) = omega (arith, f .past-held) in
           rw (e, ← drop-drop (recordBytes * k - n) n (s .edit .sheet), ← drop-drop (recordBytes * k - n) n (w .sheet), f .behind)
 
-  -- the groups before the first record's are as they were
-  groups-stay : Fair w (s .edit) → take (groupBytes * m) (s .edit .sheet) ≡ take (groupBytes * m) (w .sheet)
-  unfolding q
-  groups-stay f =
-      rw (
-        ← take-take (groupBytes * m) (recordBytes * s .edit .first) (s .edit .sheet) (omega arith),
-        f .before,
-        take-take (groupBytes * m) (recordBytes * s .edit .first) (w .sheet) (omega arith),
-      )
-
   -- an accepted save from true marks
   made : TrueMarks w → Fair w (s .edit) → Made (w .code) (m + 1) (s .out) (accepted w s)
   unfolding doneWith reworked TrueMarks left q
   made t f =
       let o =
-      work-over (w .code) (s .edit .count) m (s .edit .sheet) (w .sheet) (s .edit .marks) (w .marks) (groups-stay f)
+      work-over (w .code) (s .edit .count) m (s .edit .sheet) (w .sheet) (s .edit .marks) (w .marks) (groups-stay w (s .edit) f)
       (λ k h. marks-kept m k (s .edit .marks) (w .marks) (f .marks .before) h)
       (λ k h. t k (omega (arith, f .first-held)))
       (omega (arith, f .first-left)) (omega (arith, f .new-sheet-room, f .sheet-size)) (omega (arith, f .new-marks-room, f .marks .size))
@@ -207,7 +197,7 @@ module _ (w : World) (s : Save) (p : Proper w s) where
           elim (decLe k m) [
             | yes d ↦ marks-kept m k (reworked w (s .edit) .marks) (w .marks) (work-writes f .before ∙ f .marks .before) d
                 ∙ b k h (unfold q in omega (arith, f .first-held))
-                ∙ ap markOf (sym (same-state (w .code) m k (s .edit .sheet) (w .sheet) (groups-stay f) d))
+                ∙ ap markOf (sym (same-state (w .code) m k (s .edit .sheet) (w .sheet) (groups-stay w (s .edit) f) d))
             | no d ↦ made (built-true w b) f .written k (omega arith) i
           ]
 

@@ -4,11 +4,10 @@
 use mathlib.Core.Path.{_≡_, refl, sym, ap, subst, _∙_}
 use mathlib.Core.Bool.{true, not}
 use mathlib.Core.List.{List, [], _∷_}
-use Prim.Native.Nat.{ℕ, _*_, _/_, _<_, _≤_}
+use Prim.Native.Nat.{ℕ, _*_, _<_, _≤_}
 use native.Mathlib.Nat.{le-refl, zero-add}
 use native.Mathlib.Omega.{arith}
 use lib.ListN.{length, take, drop}
-use lib.Seq.{take-take}
 use lib.Dec.{ltb}
 use borrow.Author.Tests.{ltb-true}
 use Rattle.definition.specs.Luffa.{bytesAt}
@@ -21,7 +20,7 @@ use Rattle.sheet_definition.specs.Sheet.{World, recordBytes, groupBytes,
 use Rattle.sheet_definition.specs.Refusals.{lengthsOf, buildRefusals, batchRefusals}
 use Rattle.sheet_definition.specs.Marks.{Worked, worked}
 use Rattle.sheet_definition.specs.Save.{doneWith, checked, staleClaim, reworked, roundsBefore, saveRounds}
-use Rattle.sheet_definition.specs.SheetCalls.{Call, refusalsOf, oneRecord, writtenAt, lowest, pastHighest, some, manyRecords, editOf, saveOf, call, batching}
+use Rattle.sheet_definition.specs.SheetCalls.{Call, refusalsOf, oneRecord, writtenAt, lowest, some, manyRecords, editOf, saveOf, call, batching}
 use Rattle.sheet_definition.specs.SheetCalls.Kind.{Change, Batch}
 use Rattle.sheet_definition.specs.Run.{left, next, run, listAfter, inTurn}
 use Rattle.sheet_definition.specs.Turns.{changesOf, listAfterAll, rightly, oneByOne, AllDone, roundsOfAll, lastOut, AsOneByOne}
@@ -30,9 +29,10 @@ use Rattle.sheet_definition.proofs.Sheet.{check-from-last-mark}
 use Rattle.sheet_definition.proofs.Marks.{rounds-from-mark}
 use Rattle.sheet_definition.proofs.Outcomes.{accepted, done-is}
 use Rattle.sheet_definition.proofs.Refused.{Fits, built-numbered, built-fits}
-use Rattle.sheet_definition.proofs.Many.{Below, within, highest-held, first-sized, kept}
+use Rattle.sheet_definition.proofs.Many.{Below, first-sized}
+use Rattle.sheet_definition.proofs.Fair.{Fair, groups-stay}
 use Rattle.sheet_definition.proofs.Saves.{save-rounds}
-use Rattle.sheet_definition.proofs.Edits.{proper, Many, many}
+use Rattle.sheet_definition.proofs.Edits.{many-fair, proper, Many, many}
 use Rattle.sheet_definition.proofs.Claims.{accepted-is, change-valid}
 use Rattle.sheet_definition.proofs.Again.{again-marks, again-digest}
 
@@ -77,22 +77,6 @@ module _ (w : World) (p : ℕ) (x out : List ℕ) (b : Room w out) (h : p < w .n
   unfolding doneWith
   right-number = rw right-done
 
--- records written from place r on leave the groups before it
-groups-before : (n r : ℕ) (rs y s : List ℕ) → Below n (r ∷ rs) → rising (r ∷ rs) ≡ true → length y ≡ recordBytes * length (r ∷ rs)
-    → recordBytes * n ≤ length s
-    → (length (writtenAt (r ∷ rs) y s) ≡ length s) × (take (groupBytes * q r) (writtenAt (r ∷ rs) y s) ≡ take (groupBytes * q r) s)
-unfolding q lowest
-groups-before n r rs y s h u e l =
-    let i : pastHighest n (r ∷ rs) ≤ n = highest-held n n (r ∷ rs) (omega arith) h in
-    let k = kept (lowest n (r ∷ rs)) (pastHighest n (r ∷ rs)) (r ∷ rs) y s (within n (r ∷ rs) u) (omega arith) e in (
-      k .size,
-      rw (
-        ← take-take (groupBytes * (r / 4)) (recordBytes * r) (writtenAt (r ∷ rs) y s) (omega arith),
-        k .before,
-        take-take (groupBytes * (r / 4)) (recordBytes * r) s (omega arith),
-      ),
-    )
-
 -- changes from place p on, saved one by one
 pub record Turned (w : World) (p : ℕ) (ps x out : List ℕ) : Type 0 where
   pub all-done : AllDone w (oneByOne w (changesOf (p ∷ ps) x) out)
@@ -101,7 +85,7 @@ pub record Turned (w : World) (p : ℕ) (ps x out : List ℕ) : Type 0 where
 
 turned : (w : World) (p : ℕ) (ps x out : List ℕ) → Room w out → rising (p ∷ ps) ≡ true → Below (w .n) (p ∷ ps)
     → length x ≡ recordBytes * length (p ∷ ps) → Turned w p ps x out
-unfolding oneByOne changesOf AllDone run lastOut writtenAt
+unfolding oneByOne changesOf AllDone run lastOut writtenAt manyRecords lowest
 turned w p [] x out b u h e =
     let f = first-sized p [] x e in
     record {
@@ -124,22 +108,25 @@ turned w p (r ∷ rs) x out b u h e =
     let d : p < r = ltb-true p r (i .0) in
     let k : length s ≡ length (w .sheet) = length-overwriteAt (recordBytes * p) y (w .sheet) (omega (arith, f .0, h .0, fit .sheet-room)) in
     let z : length (v .marks) ≡ length (w .marks) = rewritten (w .code) (w .n) (q p) s (w .marks) (unfold q in omega (arith, h .0)) (fit .marks-room) .size in
-    let t : Turned v r rs y' out = turned v r rs y' out (rw (k, z) b) (i .1) (h .1) (f .1) in
-    let g = groups-before (w .n) r rs y' s (h .1) (i .1) (f .1) (omega (arith, fit .sheet-room)) in
+    let room' : Room v out = rw (k, z) b in
+    let t : Turned v r rs y' out = turned v r rs y' out room' (i .1) (h .1) (f .1) in
+    let a : Fair v (manyRecords v (r ∷ rs) y') = many-fair v (r ∷ rs) y' out (built-fits v out room') (i .1) (h .1) (f .1) in
+    let k' : length s' ≡ length s = a .sheet-size in
+    let g : take (groupBytes * q r) s' ≡ take (groupBytes * q r) s = groups-stay v (manyRecords v (r ∷ rs) y') a in
     let j : q p ≤ q r = unfold q in omega arith in
     let l : q r ≤ q (w .n) = unfold q in omega (arith, h .1 .0) in
     let m : recordBytes * w .n ≤ length s = omega (arith, fit .sheet-room) in
-    let m' : recordBytes * w .n ≤ length s' = omega (arith, g .0) in
+    let m' : recordBytes * w .n ≤ length s' = omega (arith, k') in
     record {
       all-done = (right-number w p y out b (h .0) (f .0), subst (λ (u : World). AllDone u (after u)) (sym n) (t .all-done));
       world =
           subst (λ (u : World). run u (after u) ≡ leaving w s' p) (sym n)
           (t .world
           ∙ ap (λ (ms : List ℕ). record { code = w .code; n = w .n; sheet = s'; marks = ms })
-          (again-marks (w .code) (w .n) (q p) (q r) s' s (w .marks) j l m' m (fit .marks-room) (g .1)));
+          (again-marks (w .code) (w .n) (q p) (q r) s' s (w .marks) j l m' m (fit .marks-room) g));
       digest = λ o. subst (λ (u : World). lastOut u (after u) (call w c .out) ≡ overwrite (workedAt w s' p .digest) out) (sym n)
           (t .digest (call w c .out)
-          ∙ ap (λ (d : List ℕ). overwrite d out) (again-digest (w .code) (w .n) (q p) (q r) s' s (w .marks) j l m' m (fit .marks-room) (g .1)));
+          ∙ ap (λ (d : List ℕ). overwrite d out) (again-digest (w .code) (w .n) (q p) (q r) s' s (w .marks) j l m' m (fit .marks-room) g));
     }
 
 -- no rounds after the last

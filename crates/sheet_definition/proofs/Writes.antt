@@ -54,7 +54,7 @@ pub marks-kept : (m k : ℕ) (l' l : List ℕ) → take (markWords * (m + 1)) l'
 marks-kept m k l' l e h =
     sym (mark-in-front m k l' h) ∙ ap (λ (z : List ℕ). drop (markWords * k) (take (markWords * k + markWords) z)) e ∙ mark-in-front m k l h
 
-length-marksAfter : (w : Width) (k : ℕ) (h : List Block) (x : List ℕ) → length (marksAfter w k h x) ≡ markWords * k
+pub length-marksAfter : (w : Width) (k : ℕ) (h : List Block) (x : List ℕ) → length (marksAfter w k h x) ≡ markWords * k
 unfolding marksAfter markOf wordsOfAll wordsOf five
 length-marksAfter w zero h x = refl
 length-marksAfter w (suc k) h x = omega (arith, length-marksAfter w k (chain w h (blocks (take groupBytes x))) (drop groupBytes x))
