@@ -1,6 +1,6 @@
 //! The archive against a model of its calls over the separately written program, on random messages,
-//! cuts, records, numbers of words, sheets, marks, sets of changes, plans and batches of them: differential [SEED [CASES]]. Case k of a
-//! seed is case 0 of the seed k higher, so that one that failed is run again alone.
+//! cuts, records, numbers of words, sheets, marks, sets of changes, pairs of desks, plans and batches of them: differential
+//! [SEED [CASES]]. Case k of a seed is case 0 of the seed k higher, so that one that failed is run again alone.
 
 mod batch_kinds;
 mod batches;
@@ -8,6 +8,7 @@ mod brine_kinds;
 mod brine_model;
 mod brines;
 mod calls;
+mod desks;
 mod hash_calls;
 mod hash_kinds;
 mod hashes;
@@ -125,6 +126,9 @@ const MENDS: usize = 2;
 /// The sheets of a case that are changed in many places by one save.
 const BATCHES: usize = 1;
 
+/// The sheets of a case that two desks change.
+const DESKS: usize = 3;
+
 /// The plans of a case.
 const PLANS: usize = 6;
 
@@ -148,6 +152,9 @@ fn case(seed: u64, met: &mut Met) -> Agreed {
     }
     for _ in 0..BATCHES {
         batches::batch(numbers, met)?;
+    }
+    for _ in 0..DESKS {
+        desks::desks(numbers, met)?;
     }
     for _ in 0..PLANS {
         plans::plan(numbers, met)?;
@@ -179,6 +186,7 @@ fn main() {
         output_kinds::print(&met),
         histories::print(&met),
         batch_kinds::print(&met),
+        desks::print(&met),
         mend_kinds::print(&met),
         plan_kinds::print(&met),
         brine_kinds::print(&met),

@@ -184,6 +184,6 @@ either-order w a b ea eb p =
     }
 
 -- so every later call is answered alike
-pub same-world : (w : World) (a b : Call) → EitherOrder w a b → next (next w a) (second w a b) ≡ next (next w b) (second w b a)
+pub same-afterwards : (w : World) (a b : Call) → EitherOrder w a b → next (next w a) (second w a b) ≡ next (next w b) (second w b a)
 unfolding next left
-same-world w a b o = rw (o .same-count, o .same-sheet, o .same-marks)
+same-afterwards w a b o = rw (o .same-count, o .same-sheet, o .same-marks)
