@@ -257,6 +257,8 @@ struct luffa_output_answer luffa_hash_finish_output(const struct luffa_hash *has
  *     and marks are the new ones, the answer has the new n, and the digest in out is the claim of the
  *     next save.
  *   - 11 LUFFA_STALE: somebody else has saved since. Nothing was written: open again and look.
+ * Two saves that change different records, each with the claim right at its time, leave the same sheet,
+ * marks and digest in either order, and take as many rounds.
  * A claim speaks of content: a sheet that was changed and changed back has its old digest again.
  *
  * The duty that no save can judge: marks are those that build or mend left for this sheet at this

@@ -3,16 +3,16 @@
 -- Assumes nothing.
 use mathlib.Core.Path.{_≡_, refl, sym, ap, _∙_}
 use mathlib.Core.Bool.{not}
-use mathlib.Core.List.{List, [], _∷_}
+use mathlib.Core.List.{List}
 use Prim.Native.Nat.{ℕ, _+_, _*_, _≤_}
 use native.Mathlib.Nat.{le-refl}
 use native.Mathlib.Omega.{arith}
-use lib.ListN.{length, take}
+use lib.ListN.{length}
 use lib.Seq.{take-all}
 use Rattle.definition.specs.Luffa.{bytesAt}
 use Rattle.definition.specs.Buffer.{overwrite}
 use Rattle.definition.specs.Refusal.{pick, firstOf}
-use Rattle.sheet_definition.specs.Sheet.{World, recordBytes, groupBytes, markWords, q, roundsFrom, checkRounds}
+use Rattle.sheet_definition.specs.Sheet.{World, recordBytes, q, roundsFrom, checkRounds}
 use Rattle.sheet_definition.specs.Refusals.{lengthsOf}
 use Rattle.sheet_definition.specs.Marks.{worked}
 use Rattle.sheet_definition.specs.Save.{SheetOutcome, doneWith, Edit, checked, staleClaim, reworked, roundsBefore, saveRounds}
@@ -88,13 +88,13 @@ abbrev roundsOf : (code n : ℕ) → (places : List ℕ) → ℕ
 roundsOf code n places = pick (some places) (checkRounds code n) 0 + roundsFrom code n (q (lowest n places))
 
 module _ (w : World) (c : Call) (h : Changing (c .kind)) (e : call w c .answer .number ≡ 0) where
-  set : Changes w (c .kind)
+  changed : Changes w (c .kind)
   unfolding saveOf
-  set = changes w c (c .kind) h (accepted-is w c e .0)
+  changed = changes w c (c .kind) h (accepted-is w c e .0)
 
   pub is-made : call w c ≡ made w (c .kind) (c .out)
   unfolding saveOf reworked roundsBefore manyRecords
-  is-made = rw (accepted-is w c e .1, set .edit w)
+  is-made = rw (accepted-is w c e .1, changed .edit w)
 
   count-stays : call w c .answer .count ≡ w .n
   unfolding doneWith
@@ -102,11 +102,11 @@ module _ (w : World) (c : Call) (h : Changing (c .kind)) (e : call w c .answer .
 
   rounds-are : call w c .answer .rounds ≡ roundsOf (w .code) (w .n) (placesOf (c .kind))
   unfolding call saveOf saveRounds manyRecords
-  rounds-are = save-rounds w (saveOf w c) (proper w c) .when-done e ∙ rw (set .edit w)
+  rounds-are = save-rounds w (saveOf w c) (proper w c) .when-done e ∙ rw (changed .edit w)
 
   is-fair : Fair w (manyRecords w (placesOf (c .kind)) (recordsOf (c .kind)))
   unfolding saveOf
-  is-fair = rw (set .edit w) at (proper w c .fair (accepted-is w c e .0))
+  is-fair = rw (changed .edit w) at (proper w c .fair (accepted-is w c e .0))
 
 -- the second save
 module _ (w : World) (a b : Call) (ha : Changing (a .kind)) (hb : Changing (b .kind)) (ea : call w a .answer .number ≡ 0)
@@ -157,8 +157,8 @@ either-order w a b ea eb p =
     let ha : Changing (a .kind) = p .changing .0 in
     let hb : Changing (b .kind) = p .changing .1 in
     let f : Fits w (a .out) = unfold saveOf in proper w a .room (accepted-is w a ea .0) in
-    let xa : Changes w (a .kind) = set w a ha ea in
-    let xb : Changes w (b .kind) = set w b hb eb in
+    let xa : Changes w (a .kind) = changed w a ha ea in
+    let xb : Changes w (b .kind) = changed w b hb eb in
     let fa : Fair w (manyRecords w (placesOf (a .kind)) (recordsOf (a .kind))) = is-fair w a ha ea in
     let fb : Fair w (manyRecords w (placesOf (b .kind)) (recordsOf (b .kind))) = is-fair w b hb eb in
     let s : List ℕ = writes (a .kind) (w .sheet) in

@@ -8,14 +8,14 @@ use native.Mathlib.Omega.{arith}
 use lib.ListN.{replicate}
 use Rattle.sheet_definition.specs.Sheet.{World}
 use Rattle.sheet_definition.specs.Save.{SheetOutcome, doneWith}
-use Rattle.sheet_definition.specs.SheetCalls.{buildOutcome, Call, call, changing}
+use Rattle.sheet_definition.specs.SheetCalls.{buildOutcome, Call, call}
 use Rattle.sheet_definition.specs.Run.{left, cut}
 use Rattle.sheet_definition.specs.Said.{Stands}
 use Rattle.sheet_definition.proofs.Computed.{everything}
 use Rattle.sheet_definition.proofs.Build.{build-laid}
 use Rattle.sheet_definition.proofs.Demand3.{stands-laid}
 use Rattle.sheet_definition.proofs.Instances.{ones, twos, zeros, blank}
-use Rattle.desks.specs.Desks.{handed, both, Changing, placesOf, recordsOf, EitherOrder, Seen, Ready}
+use Rattle.desks.specs.Desks.{handed, Changing, placesOf, recordsOf, EitherOrder, Seen, Ready}
 use Rattle.desks.proofs.Desks.{made, is-made, second-accepted, both-is}
 use Rattle.desks.proofs.Planners.{changeBy, ready-done, two-planners}
 

@@ -1,6 +1,6 @@
 -- What two planners see who change different wells of a sheet whose marks are true: the document's sentence, over the arguments of two changes.
 -- Assumes nothing.
-use mathlib.Core.Path.{_≡_, refl, sym, ap, _∙_}
+use mathlib.Core.Path.{_≡_, refl, sym, _∙_}
 use mathlib.Core.Bool.{true}
 use mathlib.Core.List.{List}
 use Prim.Native.Nat.{ℕ, _+_, _*_, _≤_}
@@ -13,11 +13,11 @@ use Rattle.sheet_definition.specs.Sheet.{World, most, recordBytes, markWords, q
 use Rattle.sheet_definition.specs.Refusals.{lengthsOf, sheetRefusal, marksRefusal, buildRefusals}
 use Rattle.sheet_definition.specs.SheetCalls.{Call, call, changing}
 use Rattle.sheet_definition.specs.Run.{left, next, listAfter, applied}
-use Rattle.sheet_definition.specs.Said.{Stands, After}
+use Rattle.sheet_definition.specs.Said.{Stands}
 use Rattle.sheet_definition.proofs.Demand3.{stands-next, after}
 use Rattle.sheet_definition.proofs.Claims.{length-luffa, change-valid, two-saves}
 use Rattle.desks.specs.Desks.{handed, second, Changing, placesOf, Apart, EitherOrder, Seen, Ready}
-use Rattle.desks.proofs.Desks.{handed-is, still-valid, second-accepted, either-order}
+use Rattle.desks.proofs.Desks.{handed-is, still-valid, either-order}
 
 -- an accepted save hands out Luffa of the list after it
 handed-luffa : (w : World) (rs : List (List ℕ)) → Stands w rs → (c : Call) → call w c .answer .number ≡ 0
@@ -32,13 +32,13 @@ unfolding applied
 seen w rs s a b ea eb p =
     let c : b .claim ≡ a .claim = after w b rs s .accepted .0 eb .1 ∙ sym (after w a rs s .accepted .0 ea .1) in
     let s' : Stands (next w a) (listAfter (a .kind) rs) = rw ea at (stands-next w a rs s) in
-    let d = second-accepted w a b (p .changing .0) (p .changing .1) ea eb in
+    let o : EitherOrder w a b = either-order w a b ea eb p in
     record {
       stale = two-saves w rs s a b c ea (still-valid w a b (p .changing .0) (p .changing .1) ea eb (b .claim) refl);
       opened-again = handed-luffa w rs s a ea;
-      done = d;
-      stands = rw d at (stands-next (next w a) (second w a b) (listAfter (a .kind) rs) s');
-      digest = unfold next left in handed-luffa (next w a) (listAfter (a .kind) rs) s' (second w a b) d;
+      either-way = o;
+      stands = rw (o .accepted .0) at (stands-next (next w a) (second w a b) (listAfter (a .kind) rs) s');
+      digest = unfold next left in handed-luffa (next w a) (listAfter (a .kind) rs) s' (second w a b) (o .accepted .0);
     }
 
 -- where a sheet stands at a known code, a buffer that holds a digest is all that a build would want

@@ -69,8 +69,9 @@ pub record Seen (w : World) (rs : List (List ℕ)) (a b : Call) : Type 0 where
       → Stale (call (next w a) b .answer .number) × Untouched (next w a) (b .out) (call (next w a) b)
   -- opened again, the sheet has the first one's records, and its digest is the one that was handed out
   pub opened-again : handed (w .code) (call w a) ≡ luffa (w .code) (joined (listAfter (a .kind) rs))
-  -- with it the save is done; the sheet then has the records of both, and its digest is handed out
-  pub done : both w a b .answer .number ≡ 0
+  -- with it the save is done, and all is as if the other had come first
+  pub either-way : EitherOrder w a b
+  -- the sheet then has the records of both, and its digest is handed out
   pub stands : Stands (next (next w a) (second w a b)) (listAfter (b .kind) (listAfter (a .kind) rs))
   pub digest : handed (w .code) (both w a b) ≡ luffa (w .code) (joined (listAfter (b .kind) (listAfter (a .kind) rs)))
 
