@@ -1,3 +1,2 @@
 -- Laws that the code of mending stands on.
-pub mod Compared
 pub mod Upto

@@ -1,11 +1,9 @@
 // Mending marks (document 02, Q-8): each mark of a sheet is held against the true state, which is worked out from the sheet alone, and replaced
 // where it isn't that. Every round is run by `rounds::counted_round`, and its count goes on to the answer.
 ghost use mathlib.Core.Path.{_≡_};
-ghost use mathlib.Core.Bool.{not};
 ghost use mathlib.Core.List.{[], _∷_};
 ghost use Prim.Native.Nat.{_+_, _*_, _<_, _≤_};
 ghost use lib.ListN.{length};
-ghost use Rattle.definition.specs.Buffer.{same};
 ghost use Rattle.definition.specs.Refusal.{firstOf, widthRefusal};
 ghost use Rattle.sheet_definition.specs.Refusals.{sheetRefusal, marksRefusal};
 ghost use Rattle.mend_definition.specs.Mend.{mendOutcome, mendAnswer};
@@ -29,20 +27,6 @@ fn judge(code: usize, sheet: usize, n: usize, marks: usize) -> u32
     refusals::first(one, refusals::first(five, six))
 }
 
-// Whether a mark has other words than these. All 40 are compared without a stop at the first that differs, so that it goes by vectors.
-fn differs(mark: &[u32], words: &[u32]) -> bool
-    requires { ⌜ (length (now mark) ≡ 40) × (length (now words) ≡ 40) ⌝ }
-    ensures { λ r. ⌜ r ≡ not (same (now (mark .entry)) (now (words .entry))) ⌝ }
-{
-    let mut other = false;
-    let mut j = 0;
-    while j < MARK {
-        other = other | (mark[j] != words[j]);
-        j += 1;
-    }
-    other
-}
-
 // What was found of the marks that were looked at.
 struct Found {
     wrong: u64,
@@ -58,7 +42,7 @@ fn look(found: Found, marks: &mut [u32], m: usize, s: State) -> Found
     let i = MARK * m;
     let end = i + MARK;
     let words = blocks::words(s);
-    if !differs(&marks[i..end], &words) {
+    if !sheet_marks::differs(&marks[i..end], &words) {
         return found;
     }
     sheet_marks::write(marks, m, s);

@@ -1,11 +1,13 @@
 // A mark: 40 words that hold a state (document 01, "Sheet and marks"). Marks that are too short read as zero, and nothing is written where
 // there is no room.
 ghost use mathlib.Core.Path.{_≡_};
+ghost use mathlib.Core.Bool.{not};
 ghost use mathlib.Core.List.{[]};
 ghost use Prim.Native.Nat.{_*_, _≤_};
 ghost use lib.ListN.{length};
 ghost use Rattle.definition.specs.Block.{wordsOfAll};
 ghost use Rattle.definition.specs.State.{five, stateOf};
+ghost use Rattle.definition.specs.Buffer.{same};
 ghost use Rattle.sheet_definition.specs.Marks.{blockFrom};
 ghost use Rattle.bytes.specs.Total.{writeAt};
 ghost use Rattle.sheet_marks.specs.Total.{whenUsed, stateAt, cleared};
@@ -66,6 +68,20 @@ pub fn read(w: Width, marks: &[u32], m: usize) -> State
         h3: block(3 < k, &t[24..]),
         h4: block(4 < k, &t[32..]),
     }
+}
+
+// Whether a mark has other words than these. All 40 are compared without a stop at the first that differs, so that it goes by vectors.
+pub fn differs(mark: &[u32], words: &[u32]) -> bool
+    requires { ⌜ (length (now mark) ≡ 40) × (length (now words) ≡ 40) ⌝ }
+    ensures { λ r. ⌜ r ≡ not (same (now (mark .entry)) (now (words .entry))) ⌝ }
+{
+    let mut other = false;
+    let mut k = 0;
+    while k < MARK {
+        other = other | (mark[k] != words[k]);
+        k += 1;
+    }
+    other
 }
 
 // The words of mark m.

@@ -1,0 +1,3 @@
+-- Laws that the saves with a planner's own marks stand on.
+pub mod Told
+pub mod Marks
