@@ -43,7 +43,8 @@ CLAIM = 10
 abbrev pub STALE : ℕ
 STALE = 11
 
--- and document 02's: of longer output, Q-2, of the brine statement, Q-3, of many changes in one save, Q-4, and of odd bits, Q-7
+-- and document 02's: of longer output, Q-2, of the brine statement, Q-3, of many changes in one save, Q-4, of a planner's own marks, Q-6, and of odd
+-- bits, Q-7
 abbrev pub WORDS : ℕ
 WORDS = 12
 
@@ -52,6 +53,12 @@ BATCH = 13
 
 abbrev pub SET : ℕ
 SET = 14
+
+abbrev pub OWN : ℕ
+OWN = 15
+
+abbrev pub STALE-TAIL : ℕ
+STALE-TAIL = 16
 
 abbrev pub ODD : ℕ
 ODD = 17

@@ -26,7 +26,7 @@ use Rattle.sheet_definition.proofs.Refused.{Fits}
 use Rattle.sheet_definition.proofs.Many.{Below}
 use Rattle.sheet_definition.proofs.Fair.{Fair, read-written, groups-stay}
 use Rattle.sheet_definition.proofs.Saves.{save-rounds, save-stays}
-use Rattle.sheet_definition.proofs.Edits.{change-size, Many, many, fair, proper}
+use Rattle.sheet_definition.proofs.Edits.{change-size, Many, many, fair, before-own, proper}
 use Rattle.sheet_definition.proofs.Claims.{accepted-is}
 use Rattle.sheet_definition.proofs.Again.{again-digest}
 use Rattle.desks.specs.Desks.{handed, claiming, second, both, Changing, placesOf, recordsOf, Apart, EitherOrder}
@@ -90,7 +90,7 @@ roundsOf code n places = pick (some places) (checkRounds code n) 0 + roundsFrom 
 module _ (w : World) (c : Call) (h : Changing (c .kind)) (e : call w c .answer .number ≡ 0) where
   changed : Changes w (c .kind)
   unfolding saveOf
-  changed = changes w c (c .kind) h (accepted-is w c e .0)
+  changed = changes w c (c .kind) h (before-own w c (accepted-is w c e .0))
 
   pub is-made : call w c ≡ made w (c .kind) (c .out)
   unfolding saveOf reworked roundsBefore manyRecords

@@ -20,7 +20,7 @@ handed code o = take (bytesAt code) (o .out)
 
 -- a save with another claim
 abbrev pub claiming : (claim : List ℕ) → Call → Call
-claiming d c = record { kind = c .kind; claim = d; out = c .out }
+claiming d c = record { kind = c .kind; claim = d; own = c .own; out = c .out }
 
 -- one desk's save and then the other's, "with the claim right at its time": the digest that the first has handed out
 abbrev pub second : World → (a b : Call) → Call

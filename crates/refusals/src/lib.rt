@@ -35,6 +35,10 @@ pub const BATCH: u32 = 13;
 
 pub const SET: u32 = 14;
 
+pub const OWN: u32 = 15;
+
+pub const STALE_TAIL: u32 = 16;
+
 pub const ODD: u32 = 17;
 
 pub const LIST: u32 = 25;

@@ -12,7 +12,7 @@ use Rattle.definition.specs.Refusal.{pick, firstOf, whenDone}
 use Rattle.sheet_definition.specs.Sheet.{World, recordBytes, q}
 use Rattle.sheet_definition.specs.Marks.{markOf, worked}
 use Rattle.sheet_definition.specs.Save.{SheetOutcome, doneWith, checked, reworked, roundsBefore, saveOutcome}
-use Rattle.sheet_definition.specs.SheetCalls.{Call, oneRecord, editOf, saveOf, call}
+use Rattle.sheet_definition.specs.SheetCalls.{Kind, Call, plain, oneRecord, editOf, saveOf, call}
 use Rattle.sheet_definition.proofs.Outcomes.{accepted}
 use Rattle.sheet_definition.proofs.Edits.{proper}
 use Rattle.sheet_marks.specs.Total.{cleared}
@@ -30,8 +30,11 @@ unfolding doneWith reworked roundsBefore pick oneRecord
 put-together w number place count x claim out₀ before rounds sheet marks marks' out b s c r m o = rw (r, m, o, s, c, b)
 
 -- a save of one record, judged by the number of a call's refusals: it is that call, where the record has its size and the edit is the call's
-module _ (w : World) (c : Call) (place : ℕ) (x : List ℕ) (count : ℕ) {k : ℕ} (e : k ≡ firstOf (saveOf w c .refusals))
-    (s : k ≡ 0 → (length x ≡ recordBytes) × (oneRecord w place x count (cleared (w .n) count (w .marks)) ≡ editOf w (c .kind))) where
+module _ (w : World) (kind : Kind) (claim out : List ℕ) (place : ℕ) (x : List ℕ) (count : ℕ) {k : ℕ} (e : k ≡ firstOf (saveOf w (plain kind claim out) .refusals))
+    (s : k ≡ 0 → (length x ≡ recordBytes) × (oneRecord w place x count (cleared (w .n) count (w .marks)) ≡ editOf w kind)) where
+  abbrev c : Call
+  c = plain kind claim out
+
   pub judged : k ≡ 0
       → Valid (w .code) (length (w .sheet)) (w .n) (length (w .marks)) place (length x) count (length (c .claim)) (length (c .out))
   unfolding saveOf oneRecord q

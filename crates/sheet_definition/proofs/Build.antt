@@ -25,6 +25,7 @@ use Rattle.definition.proofs.Chain.{length-start}
 use Rattle.sheet_definition.proofs.Sheet.{build-from-start}
 use Rattle.sheet_definition.proofs.Marks.{length-mark, state-of-mark, rounds-from-mark}
 use Rattle.sheet_definition.proofs.Writes.{marks-kept, Rewritten, rewritten, length-digest}
+use Rattle.sheet_definition.proofs.Outcomes.{stale-answers}
 use Rattle.sheet_definition.proofs.Refused.{Fits, built-fits}
 use Rattle.sheet_definition.proofs.Fair.{read-written}
 use Rattle.sheet_definition.proofs.Saves.{Made, work-over}
@@ -161,7 +162,7 @@ module _ (code : ℕ) (sheet : List ℕ) (n : ℕ) (marks out : List ℕ) where
       by-build (λ o. Rounds (o .answer) (buildRounds code n) 0)
       (λ z f. record {
         when-done = λ e. zero-add (work .rounds) ∙ rounds-from-mark code n 0 sheet withFirst (omega arith) (f .sheet-room) ∙ sym (build-from-start code n);
-        when-stale = λ e. absurd (omega arith);
+        when-stale = λ e. absurd (stale-answers e refl);
         none = λ h i. absurd (h refl);
       })
       (λ k z. record { when-done = λ e. absurd (omega arith); when-stale = λ e. refl; none = λ h i. refl })

@@ -20,7 +20,7 @@ use Rattle.sheet_definition.specs.Said.{Stale, Stands, Untouched, Stays,
 use Rattle.definition.proofs.Output.{length-output}
 use Rattle.definition.proofs.Refusals.{rest-given}
 use Rattle.sheet_definition.proofs.Writes.{put-back}
-use Rattle.sheet_definition.proofs.Outcomes.{accepted, by-answer}
+use Rattle.sheet_definition.proofs.Outcomes.{stale-answers, accepted, by-answer}
 use Rattle.sheet_definition.proofs.Refused.{Fits, built-numbered, built-fits}
 use Rattle.sheet_definition.proofs.Saves.{save-stays, save-made, save-accepted}
 use Rattle.sheet_definition.proofs.Edits.{proper}
@@ -32,7 +32,7 @@ pub accepted-is : (w : World) (c : Call) → call w c .answer .number ≡ 0
 unfolding call refusedWith
 accepted-is w c =
     by-answer w (saveOf w c) (λ o. o .answer .number ≡ 0 → (firstOf (saveOf w c .refusals) ≡ 0) × (o ≡ accepted w (saveOf w c)))
-    (λ k e h. absurd (omega arith)) (λ e t h. absurd (omega (arith, proper w c .answered))) (λ e t h. (e, refl))
+    (λ k e h. absurd (omega arith)) (λ e t h. absurd (stale-answers (proper w c .answered) h)) (λ e t h. (e, refl))
 
 -- the 40 bytes of a sheet that the one held differs from in them at most, put in their place
 restores : (w : World) (n : ℕ) (sheet : List ℕ) (place : ℕ) (claim out : List ℕ) → TrueMarks w
@@ -114,7 +114,7 @@ two-saves w rs s c d e a v f =
     let s' : Stands (next w c) (applied 0 rs c) = rw a at (stands-next w c rs s) in
     let o : After (next w c) d (applied 0 rs c) = after (next w c) d (applied 0 rs c) s' in
     let t : Stale (call (next w c) d .answer .number) = o .stale .1 (v, λ g. f (sym (after w c rs s .accepted .0 a .1) ∙ sym e ∙ g)) in
-    (t, o .refused (λ z. absurd (omega arith)))
+    (t, o .refused (stale-answers t))
 
 -- a claim speaks of content: after a change and a change back to the old record the old digest is a good claim again
 pub old-claim : (w : World) (rs : List (List ℕ)) → Stands w rs → (place : ℕ) (x claim out claim' out' : List ℕ) (d : Call)

@@ -3,7 +3,7 @@
 -- Assumes nothing.
 use mathlib.Core.Path.{_≡_, refl, sym, ap, _∙_}
 use mathlib.Core.List.{List, [], _∷_}
-use Prim.Native.Nat.{ℕ, _+_}
+use Prim.Native.Nat.{ℕ, zero, suc, _+_}
 use native.Mathlib.Omega.{arith}
 use Rattle.definition.specs.Luffa.{luffa}
 use Rattle.definition.specs.Buffer.{overwrite}
@@ -11,13 +11,19 @@ use Rattle.definition.specs.Refusal.{firstOf}
 use Rattle.sheet_definition.specs.Sheet.{World, q}
 use Rattle.sheet_definition.specs.Marks.{held}
 use Rattle.sheet_definition.specs.Save.{refusedWith, doneWith}
-use Rattle.sheet_definition.specs.SheetCalls.{Call, saveOf, call}
+use Rattle.sheet_definition.specs.SheetCalls.{Call, staleNumberOf, saveOf, call}
 use Rattle.sheet_definition.specs.Run.{left, next, run, applied, records, cut}
-use Rattle.sheet_definition.specs.Said.{Stands, Laid, Stays, After}
-use Rattle.sheet_definition.proofs.Outcomes.{accepted, by-answer, given, refused-untouched}
+use Rattle.sheet_definition.specs.Said.{Stale, Stands, Laid, Stays, After}
+use Rattle.sheet_definition.proofs.Outcomes.{stale-answers, accepted, by-answer, given, refused-untouched}
 use Rattle.sheet_definition.proofs.Saves.{Made, save-rounds, save-stays, save-marks, past-stays, built-true, save-made, save-built, save-freed, save-accepted, save-stale}
-use Rattle.sheet_definition.proofs.Edits.{proper, listed}
+use Rattle.sheet_definition.proofs.Edits.{before-own, proper, listed}
 use Rattle.sheet_definition.proofs.Joined.{length-cut, forty-cut, joined-cut}
+
+-- a stale save leaves the list
+not-applied : (k : ℕ) (rs : List (List ℕ)) (c : Call) → Stale k → applied k rs c ≡ rs
+unfolding applied
+not-applied zero rs c t = absurd (stale-answers t refl)
+not-applied (suc k) rs c t = refl
 
 -- a call leaves a world that stands for the list that it leaves
 pub stands-next : (w : World) (c : Call) (rs : List (List ℕ)) → Stands w rs → Stands (next w c) (applied (call w c .answer .number) rs c)
@@ -26,14 +32,14 @@ stands-next w c rs s =
     by-answer w (saveOf w c)
     (λ o. Stays w (saveOf w c .edit) (c .out) o → (o .answer .number ≡ 0 → Made (w .code) (q (saveOf w c .edit .first) + 1) (c .out) o)
     → Stands (left (w .code) o) (applied (o .answer .number) rs c))
-    (λ k e d m. s) (λ e t d m. s) (λ e t d m. made e d (m refl))
+    (λ k e d m. s) (λ e t d m. rw (not-applied (staleNumberOf w (c .own)) rs c (proper w c .answered)) s) (λ e t d m. made e d (m refl))
     (save-stays w (saveOf w c) (proper w c)) (save-made w (saveOf w c) (proper w c) (s .marks-true))
   where
     made : firstOf (saveOf w c .refusals) ≡ 0 → Stays w (saveOf w c .edit) (c .out) (accepted w (saveOf w c))
         → Made (w .code) (q (saveOf w c .edit .first) + 1) (c .out) (accepted w (saveOf w c))
         → Stands (left (w .code) (accepted w (saveOf w c))) (applied 0 rs c)
     made e d m =
-        let r = listed w c (c .kind) rs s e in
+        let r = listed w c (c .kind) rs s (before-own w c e) in
         let f = proper w c .fair e in
         record {
           sized = r .sized;

@@ -1,7 +1,7 @@
 -- Each kind of save is proper, and makes of the plain list of records what document 01 says.
 -- Assumes nothing.
 use mathlib.Core.Path.{_≡_, refl, sym, _∙_}
-use mathlib.Core.Bool.{true}
+use mathlib.Core.Bool.{true, false≢true}
 use mathlib.Core.List.{List, [], _∷_, append-nil}
 use Prim.Native.Nat.{ℕ, _+_, _-_, _*_, _<_, _≤_}
 use native.Mathlib.Decide.{ℕ-discrete}
@@ -13,15 +13,19 @@ use Rattle.definition.specs.Luffa.{bytesAt}
 use Rattle.definition.specs.Buffer.{Every, overwriteAt, joined}
 use Rattle.definition.specs.Refusal.{Refusal, PLACE, FULL, SIZE, CLAIM, SET, pick, firstOf, conditionOf, rising}
 use Rattle.sheet_definition.specs.Sheet.{World, recordBytes, markWords, q, r}
+use Rattle.sheet_definition.specs.declared.Found.{Found}
+use Rattle.sheet_definition.specs.declared.Found.the-variants.{Same, Group}
+use Rattle.sheet_definition.specs.Own.{Own, ownRefusal, withOwn, staleAs, stale}
+use Rattle.sheet_definition.specs.Own.Own.{None, Brought}
 use Rattle.sheet_definition.specs.Refusals.{lengthsOf, claimRefusal, mostChanges}
 use Rattle.sheet_definition.specs.Marks.{held, markAt}
-use Rattle.sheet_definition.specs.SheetCalls.{Kind, Call, refusalsOf, oneRecord, withoutLast, lowest, pastHighest, manyRecords, editOf, saveOf}
+use Rattle.sheet_definition.specs.SheetCalls.{Kind, Call, comparing, staleNumberOf, refusalsOf, oneRecord, withoutLast, lowest, pastHighest, manyRecords, editOf, saveOf}
 use Rattle.sheet_definition.specs.SheetCalls.Kind.{Change, Append, Drop, Batch}
 use Rattle.sheet_definition.specs.Run.{listAfter}
 use Rattle.sheet_definition.specs.Said.{Stale, Stands}
 use Rattle.definition.proofs.Every.{every-take, every-append}
 use Rattle.definition.proofs.Buffer.{length-overwriteAt, take-overwriteAt, drop-overwriteAt}
-use Rattle.definition.proofs.Refusals.{Numbered, fails}
+use Rattle.definition.proofs.Refusals.{Numbered, fails, in-turn, first-done}
 use Rattle.sheet_definition.proofs.Joined.{Listed, listed-by, listed-set, joined-append, joined-take, take-added}
 use Rattle.sheet_definition.proofs.Many.{Below, none-past, within, lowest-held, highest-held, kept, listed-in-turn}
 use Rattle.sheet_definition.proofs.Writes.{Rewritten}
@@ -80,6 +84,32 @@ many-fair w places x out f u b e =
       words-freed = λ m i j. absurd (omega arith);
     }
 
+-- the refusal of a planner's own marks comes after the others, and its number is neither 0 nor a stale claim's
+own-numbered : (code : ℕ) (o : Own) (rs : List Refusal) → Numbered rs → Numbered (withOwn code o rs)
+unfolding ownRefusal
+own-numbered code None rs h = h
+own-numbered code (Brought n marks) rs h = every-append _ rs _ h (omega arith)
+
+own-earlier : (code : ℕ) (o : Own) (rs : List Refusal) → Every (λ x. Stale (x .0) → ⊥) rs → Every (λ x. Stale (x .0) → ⊥) (withOwn code o rs)
+unfolding ownRefusal stale
+own-earlier code None rs h = h
+own-earlier code (Brought n marks) rs h = every-append _ rs _ h (search false≢true)
+
+own-front : (code : ℕ) (o : Own) (rs : List Refusal) → Numbered rs → firstOf (withOwn code o rs) ≡ 0 → firstOf rs ≡ 0
+own-front code None rs h e = e
+own-front code (Brought n marks) rs h e = first-done (firstOf rs) _ (in-turn rs (ownRefusal code n marks ∷ []) h ∙ e)
+
+-- and what answers a stale claim is a stale claim's number
+found-stale : (f : Found) → Stale (staleAs f)
+unfolding staleAs stale
+found-stale Same = refl
+found-stale (Group g) = refl
+
+stale-answered : (w : World) (o : Own) → Stale (staleNumberOf w o)
+unfolding stale
+stale-answered w None = refl
+stale-answered w (Brought n marks) = found-stale (comparing w (Brought n marks) .found)
+
 -- every save's refusals begin with those of a build and end with the claim's length
 module _ (w : World) (c : Call) where
   abbrev refusals : Kind → List Refusal
@@ -93,11 +123,11 @@ module _ (w : World) (c : Call) where
   numbered (Batch places x) = omega arith
 
   earlier : (k : Kind) → Every (λ x. Stale (x .0) → ⊥) (refusals k)
-  unfolding judging
-  earlier (Change place x) = omega arith
-  earlier (Append x) = omega arith
-  earlier Drop = omega arith
-  earlier (Batch places x) = omega arith
+  unfolding judging stale
+  earlier (Change place x) = search false≢true
+  earlier (Append x) = search false≢true
+  earlier Drop = search false≢true
+  earlier (Batch places x) = search false≢true
 
   pub room : (k : Kind) → firstOf (refusals k) ≡ 0 → Fits w (c .out)
   unfolding judging
@@ -169,16 +199,20 @@ module _ (w : World) (c : Call) where
       (m .1)
   fair (Batch places x) e = many-fair w places x (c .out) (room (Batch places x) e) (many places x e .rise) (many places x e .below) (many places x e .sizes)
 
+  -- where nothing is refused, nothing is but for the planner's own marks
+  pub before-own : firstOf (withOwn (w .code) (c .own) (refusals (c .kind))) ≡ 0 → firstOf (refusals (c .kind)) ≡ 0
+  before-own e = own-front (w .code) (c .own) (refusals (c .kind)) (numbered (c .kind)) e
+
   pub proper : Proper w (saveOf w c)
   unfolding saveOf
   proper =
       record {
-        numbered = numbered (c .kind);
-        earlier = earlier (c .kind);
-        answered = refl;
-        room = room (c .kind);
-        claim-size = λ e. claim-sized (bytesAt (w .code)) (length (c .claim)) (sym (claimed (c .kind)) ∙ fails (refusals (c .kind)) (numbered (c .kind)) e CLAIM);
-        fair = fair (c .kind);
+        numbered = own-numbered (w .code) (c .own) (refusals (c .kind)) (numbered (c .kind));
+        earlier = own-earlier (w .code) (c .own) (refusals (c .kind)) (earlier (c .kind));
+        answered = stale-answered w (c .own);
+        room = λ e. room (c .kind) (before-own e);
+        claim-size = λ e. claim-sized (bytesAt (w .code)) (length (c .claim)) (sym (claimed (c .kind)) ∙ fails (refusals (c .kind)) (numbered (c .kind)) (before-own e) CLAIM);
+        fair = λ e. fair (c .kind) (before-own e);
       }
 
   -- what a save that is done makes of the list is what its sheet holds

@@ -19,7 +19,7 @@ use Rattle.sheet_definition.specs.Sheet.{World, groupBytes, markWords}
 use Rattle.sheet_definition.specs.Refusals.{changeRefusals}
 use Rattle.sheet_definition.specs.Marks.{markAt, stateFrom, markOf}
 use Rattle.sheet_definition.specs.Save.{saveRounds}
-use Rattle.sheet_definition.specs.SheetCalls.{Call, saveOf, call, changing, changeOutcome, appendOutcome, dropOutcome, buildOutcome}
+use Rattle.sheet_definition.specs.SheetCalls.{Call, saveOf, call, changing, changeOutcome, appendOutcome, dropOutcome, buildOutcome, plain}
 use Rattle.sheet_definition.specs.SheetCalls.Kind.{Append, Drop}
 use Rattle.sheet_definition.proofs.Computed.{everything}
 use Rattle.sheet_definition.proofs.Saves.{save-rounds}
@@ -104,9 +104,9 @@ examples =
       change-5-5 = refl;
       change-1024-0 = λ s m x c o. takes (at 4 1024 s m) (changing 0 x c o) 1286 refl;
       change-1024-1023 = λ s m x c o. takes (at 4 1024 s m) (changing 1023 x c o) 11 refl;
-      append-3 = λ s m x c o. takes (at 2 3 s m) (record { kind = Append x; claim = c; out = o }) 12 refl;
+      append-3 = λ s m x c o. takes (at 2 3 s m) (plain (Append x) c o) 12 refl;
       append-3-mark = λ s m x c o e. append-mark (at 2 3 s m) x c o e refl;
       append-3-others = λ s m x c o e k h. append-others (at 2 3 s m) x c o e k (λ p. h (p .1));
-      drop-4 = λ s m c o. takes (at 2 4 s m) (record { kind = Drop; claim = c; out = o }) 7 refl;
+      drop-4 = λ s m c o. takes (at 2 4 s m) (plain Drop c o) 7 refl;
       drop-4-mark = λ s m c o e. drop-mark (at 2 4 s m) c o e (zero-lt-suc 3) refl;
     }

@@ -11,7 +11,7 @@ use Rattle.definition.specs.Luffa.{luffa}
 use Rattle.definition.specs.Buffer.{same, joined}
 use Rattle.definition.specs.Refusal.{firstOf}
 use Rattle.sheet_definition.specs.Sheet.{World}
-use Rattle.sheet_definition.specs.SheetCalls.{buildOutcome, Call, saveOf, call, changing}
+use Rattle.sheet_definition.specs.SheetCalls.{buildOutcome, Call, saveOf, call, changing, plain}
 use Rattle.sheet_definition.specs.SheetCalls.Kind.{Append, Drop}
 use Rattle.sheet_definition.specs.Run.{left, next, run, listAfter, applied, cut}
 use Rattle.sheet_definition.specs.Said.{Stale, Stands, Laid, Restored}
@@ -119,7 +119,7 @@ pub restored : Restored (opened .code) (opened .n) (opened .sheet) blank (call s
 restored = change-back opened 0 twos (luffa 2 ones) blank (luffa 2 twos) blank (stands .marks-true) changed changed-back
 
 abbrev pub last : Call
-last = record { kind = Drop; claim = luffa 2 ones; out = blank }
+last = plain Drop (luffa 2 ones) blank
 
 room-last : firstOf (saveOf (left 2 (accepted (left 2 (accepted opened (saveOf opened one))) (saveOf (left 2 (accepted opened (saveOf opened one))) back))) last .refusals) ≡ 0
 unfolding everything
@@ -158,7 +158,7 @@ unfolding everything cut
 three-stands = stands-laid three (build-laid 2 (replicate 160 0) 3 (replicate 80 0) blank three-built)
 
 abbrev pub fourth : Call
-fourth = record { kind = Append ones; claim = luffa 2 (joined (zeros ∷ zeros ∷ zeros ∷ [])); out = blank }
+fourth = plain (Append ones) (luffa 2 (joined (zeros ∷ zeros ∷ zeros ∷ []))) blank
 
 valid-fourth : firstOf (saveOf three fourth .refusals) ≡ 0
 unfolding everything
@@ -173,7 +173,7 @@ unfolding applied listAfter
 four-stands = rw appended at (stands-next three fourth (zeros ∷ zeros ∷ zeros ∷ []) three-stands)
 
 abbrev pub dropping : Call
-dropping = record { kind = Drop; claim = luffa 2 (joined (zeros ∷ zeros ∷ zeros ∷ ones ∷ [])); out = blank }
+dropping = plain Drop (luffa 2 (joined (zeros ∷ zeros ∷ zeros ∷ ones ∷ []))) blank
 
 room-dropping : firstOf (saveOf (left 2 (accepted three (saveOf three fourth))) dropping .refusals) ≡ 0
 unfolding everything

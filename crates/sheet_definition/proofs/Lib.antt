@@ -15,6 +15,8 @@ pub mod Orders
 pub mod Demand3
 pub mod Rebuilt
 pub mod Claims
+pub mod Compared
+pub mod Owned
 pub mod Again
 pub mod Turns
 pub mod Sentences

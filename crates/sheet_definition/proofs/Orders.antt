@@ -6,15 +6,17 @@ use mathlib.Core.Bool.{Bool, true, false}
 use mathlib.Core.List.{List, [], _∷_, _++_}
 use Prim.Native.Nat.{ℕ}
 use native.Mathlib.Omega.{arith}
-use Rattle.definition.specs.Refusal.{Refusal, Judged, WIDTH, OUT, SHEET, MARKS, PLACE, FULL, SIZE, CLAIM, STALE, SET, numbersOf, rising}
+use Rattle.definition.specs.Refusal.{Refusal, Judged, WIDTH, OUT, SHEET, MARKS, PLACE, FULL, SIZE, CLAIM, STALE, SET, OWN, numbersOf, rising}
 use Rattle.sheet_definition.specs.Sheet.{World}
 use Rattle.sheet_definition.specs.Refusals.{lengthsOf, buildRefusals}
 use Rattle.sheet_definition.specs.Save.{staleClaim}
-use Rattle.sheet_definition.specs.SheetCalls.{buildOutcome, Kind, Call, saveOf, call}
+use Rattle.sheet_definition.specs.Own.{Own, ownRefusal}
+use Rattle.sheet_definition.specs.Own.Own.{None, Brought}
+use Rattle.sheet_definition.specs.SheetCalls.{buildOutcome, Kind, Call, staleNumberOf, saveOf, call}
 use Rattle.sheet_definition.specs.SheetCalls.Kind.{Change, Append, Drop, Batch}
 use Rattle.definition.proofs.Every.{every-append}
 use Rattle.definition.proofs.Refusals.{judged}
-use Rattle.sheet_definition.proofs.Outcomes.{number-is}
+use Rattle.sheet_definition.proofs.Outcomes.{stale-answers, number-is}
 use Rattle.sheet_definition.proofs.Refused.{built-numbered, judging}
 use Rattle.sheet_definition.proofs.Edits.{proper}
 use Rattle.sheet_definition.proofs.Build.{build-number}
@@ -23,12 +25,17 @@ use Rattle.sheet_definition.proofs.Build.{build-number}
 abbrev pub allOf : World → Call → List Refusal
 allOf w c = saveOf w c .refusals ++ (saveOf w c .staleNumber, staleClaim w (c .claim)) ∷ []
 
--- each call's numbers in their order
+-- each call's numbers in their order, up to a stale claim's
 unfoldable pub orderOf : Kind → List ℕ
-orderOf (Change place x) = WIDTH ∷ OUT ∷ SHEET ∷ MARKS ∷ PLACE ∷ SIZE ∷ CLAIM ∷ STALE ∷ []
-orderOf (Append x) = WIDTH ∷ OUT ∷ SHEET ∷ MARKS ∷ FULL ∷ SIZE ∷ CLAIM ∷ STALE ∷ []
-orderOf Drop = WIDTH ∷ OUT ∷ SHEET ∷ MARKS ∷ PLACE ∷ CLAIM ∷ STALE ∷ []
-orderOf (Batch places x) = WIDTH ∷ OUT ∷ SHEET ∷ MARKS ∷ SET ∷ PLACE ∷ SIZE ∷ CLAIM ∷ STALE ∷ []
+orderOf (Change place x) = WIDTH ∷ OUT ∷ SHEET ∷ MARKS ∷ PLACE ∷ SIZE ∷ CLAIM ∷ []
+orderOf (Append x) = WIDTH ∷ OUT ∷ SHEET ∷ MARKS ∷ FULL ∷ SIZE ∷ CLAIM ∷ []
+orderOf Drop = WIDTH ∷ OUT ∷ SHEET ∷ MARKS ∷ PLACE ∷ CLAIM ∷ []
+orderOf (Batch places x) = WIDTH ∷ OUT ∷ SHEET ∷ MARKS ∷ SET ∷ PLACE ∷ SIZE ∷ CLAIM ∷ []
+
+-- "15 OWN .., after 10; for such a save 11 .., and 16"
+unfoldable pub endOf : World → Own → List ℕ
+endOf w None = STALE ∷ []
+endOf w (Brought n marks) = OWN ∷ staleNumberOf w (Brought n marks) ∷ []
 
 -- "the lowest number is given" of document 01's saves; in a batch 14 comes "after 6", before 7
 unfoldable pub lowestGiven : Kind → Bool
@@ -37,27 +44,32 @@ lowestGiven (Append x) = true
 lowestGiven Drop = true
 lowestGiven (Batch places x) = false
 
-pub order-rising : (k : Kind) → rising (orderOf k) ≡ lowestGiven k
+pub order-rising : (k : Kind) → rising (orderOf k ++ STALE ∷ []) ≡ lowestGiven k
 unfolding rising orderOf lowestGiven
 order-rising (Change place x) = refl
 order-rising (Append x) = refl
 order-rising Drop = refl
 order-rising (Batch places x) = refl
 
-save-order : (w : World) (c : Call) (k : Kind) → numbersOf (allOf w (record { kind = k; claim = c .claim; out = c .out })) ≡ orderOf k
-unfolding judging saveOf orderOf
-save-order w c (Change place x) = refl
-save-order w c (Append x) = refl
-save-order w c Drop = refl
-save-order w c (Batch places x) = refl
+save-order : (w : World) (c : Call) (k : Kind) (o : Own)
+    → numbersOf (allOf w (record { kind = k; claim = c .claim; own = o; out = c .out })) ≡ orderOf k ++ endOf w o
+unfolding judging saveOf orderOf endOf ownRefusal
+save-order w c (Change place x) None = refl
+save-order w c (Append x) None = refl
+save-order w c Drop None = refl
+save-order w c (Batch places x) None = refl
+save-order w c (Change place x) (Brought n marks) = refl
+save-order w c (Append x) (Brought n marks) = refl
+save-order w c Drop (Brought n marks) = refl
+save-order w c (Batch places x) (Brought n marks) = refl
 
 -- so each save is judged by its list, and a build by its own
-pub save-judged : (w : World) (c : Call) → Judged (call w c .answer .number) (allOf w c) (orderOf (c .kind))
+pub save-judged : (w : World) (c : Call) → Judged (call w c .answer .number) (allOf w c) (orderOf (c .kind) ++ endOf w (c .own))
 unfolding call saveOf
 save-judged w c =
     let p = proper w c in
-    rw (← save-order w c (c .kind))
-    (judged (allOf w c) (every-append _ (saveOf w c .refusals) _ (p .numbered) (omega (arith, p .answered)))
+    rw (← save-order w c (c .kind) (c .own))
+    (judged (allOf w c) (every-append _ (saveOf w c .refusals) _ (p .numbered) (omega (arith, stale-answers (p .answered)), tt))
     (number-is w (saveOf w c) (p .numbered) (p .earlier) (p .answered)))
 
 pub build-judged : (code : ℕ) (sheet : List ℕ) (n : ℕ) (marks out : List ℕ)

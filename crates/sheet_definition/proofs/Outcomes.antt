@@ -2,7 +2,7 @@
 -- Assumes nothing.
 use mathlib.Core.Path.{_≡_, refl, sym, _∙_}
 use mathlib.Core.Logic.{_↔_}
-use mathlib.Core.Bool.{Bool, true, false}
+use mathlib.Core.Bool.{Bool, true, false, false≢true}
 use mathlib.Core.List.{[], _∷_, _++_}
 use Prim.Native.Nat.{ℕ, zero, suc}
 use native.Mathlib.Omega.{arith}
@@ -10,8 +10,14 @@ use Rattle.definition.specs.Buffer.{Every}
 use Rattle.definition.specs.Refusal.{First, pick, firstOf, whenDone}
 use Rattle.sheet_definition.specs.Sheet.{World}
 use Rattle.sheet_definition.specs.Save.{SheetOutcome, refusedWith, doneWith, Save, checked, staleClaim, reworked, roundsBefore, saveOutcome}
+use Rattle.sheet_definition.specs.Own.{stale}
 use Rattle.sheet_definition.specs.Said.{Stale, Untouched}
 use Rattle.definition.proofs.Refusals.{Numbered, of-first, first-given, given-first, in-turn}
+
+-- a number that answers a stale claim isn't that of a save that is done
+pub stale-answers : {k : ℕ} → Stale k → k ≡ 0 → ⊥
+unfolding stale
+stale-answers t e = false≢true (rw e at t)
 
 module _ (w : World) (s : Save) where
   abbrev pub isStale : Bool
@@ -61,7 +67,7 @@ module _ (w : World) (s : Save) where
     unfolding refusedWith doneWith
     given k h = (
       by-answer (λ o. o .answer .number ≡ suc k → First (suc k) (s .refusals))
-          (λ j e f. given-first (s .refusals) (e ∙ f)) (λ e t f. absurd (h (sym f ∙ answered))) (λ e t f. absurd (omega arith)),
+          (λ j e f. given-first (s .refusals) (e ∙ f)) (λ e t f. absurd (h (rw f at answered))) (λ e t f. absurd (omega arith)),
       λ f. rw (← refused-is (sym (first-given f)) (λ z. absurd (omega arith))),
     )
 
@@ -69,7 +75,7 @@ module _ (w : World) (s : Save) where
     unfolding refusedWith doneWith
     done-exactly = (
       by-answer (λ o. o .answer .number ≡ 0 → (firstOf (s .refusals) ≡ 0) × (isStale ≡ false))
-          (λ j e f. absurd (omega arith)) (λ e t f. absurd (omega (arith, answered))) (λ e t f. (e, t)),
+          (λ j e f. absurd (omega arith)) (λ e t f. absurd (stale-answers answered f)) (λ e t f. (e, t)),
       λ p. rw (← done-is (sym (p .0)) refl (p .1)),
     )
 
@@ -77,7 +83,7 @@ module _ (w : World) (s : Save) where
     unfolding refusedWith doneWith
     stale-exactly = (
       by-answer (λ o. Stale (o .answer .number) → (firstOf (s .refusals) ≡ 0) × (isStale ≡ true))
-          (λ j e f. absurd (not-stale e f)) (λ e t f. (e, t)) (λ e t f. absurd (omega arith)),
+          (λ j e f. absurd (not-stale e f)) (λ e t f. (e, t)) (λ e t f. absurd (stale-answers f refl)),
       λ p. rw (← stale-is (sym (p .0)) refl (p .1)) answered,
     )
 

@@ -1,7 +1,7 @@
 -- A save that brings the planner's own marks beside the plain one: done, it leaves what the plain one leaves; stale, it says where; else it says nowhere.
 -- Assumes nothing.
 use mathlib.Core.Path.{_≡_, refl, sym, ap, _∙_}
-use mathlib.Core.Bool.{Bool, true, false, false≢true}
+use mathlib.Core.Bool.{Bool, true, false}
 use mathlib.Core.List.{List}
 use Prim.Native.Nat.{ℕ, _≤_, _<_}
 use native.Mathlib.Omega.{arith}
@@ -10,23 +10,31 @@ use lib.ListN.{length}
 use borrow.Author.Tests.{ltb-true, ltb-false}
 use Rattle.definition.specs.Buffer.{Every}
 use Rattle.definition.proofs.Refusals.{of-first, given-first}
-use Rattle.definition.specs.Refusal.{STALE, OWN, STALE-TAIL, pick, firstOf}
+use Rattle.definition.specs.Refusal.{STALE, OWN, STALE-TAIL, pick}
 use Rattle.sheet_definition.specs.declared.Found.{Found}
 use Rattle.sheet_definition.specs.declared.Found.the-variants.{Same, Group}
 use Rattle.sheet_definition.specs.declared.Where.{Where}
 use Rattle.sheet_definition.specs.Sheet.{World, q}
-use Rattle.sheet_definition.specs.Save.{SheetOutcome, refusedWith, doneWith, checked, saveOutcome}
+use Rattle.sheet_definition.specs.Save.{refusedWith, doneWith}
 use Rattle.sheet_definition.specs.Own.{shared, nowhere, staleAs, stale, kindOf}
 use Rattle.sheet_definition.specs.Own.Own.{Brought}
 use Rattle.sheet_definition.specs.Refusals.{lengthsOf}
 use Rattle.sheet_definition.specs.SheetCalls.{Kind, Call, plain, refusalsOf, comparing, staleNumberOf, saveOf, call, whereOf}
 use Rattle.sheet_definition.specs.SheetCalls.Kind.{Change, Append, Drop, Batch}
 use Rattle.sheet_definition.specs.Said.{Stale, Finds, Names, Tail}
-use Rattle.sheet_definition.proofs.Outcomes.{stale-answers, isStale, turnedAway, accepted, refused-is, stale-is, done-is, by-answer}
+use Rattle.sheet_definition.proofs.Outcomes.{stale-answers, done-is, by-answer}
 use Rattle.sheet_definition.proofs.Refused.{judging}
 use Rattle.sheet_definition.proofs.Edits.{before-own, proper}
 use Rattle.sheet_definition.proofs.Compared.{finds, group-differs}
-use Rattle.sheet_definition.proofs.Claims.{accepted-is}
+
+-- both sheets have the marks that are compared
+pub shared-held : (n own : ℕ) → (shared n own ≤ q n) × (shared n own ≤ q own)
+unfolding shared pick
+shared-held n own = go (ltb (q n) (q own)) refl
+  where
+    go : (b : Bool) → ltb (q n) (q own) ≡ b → (pick b (q n) (q own) ≤ q n) × (pick b (q n) (q own) ≤ q own)
+    go true e = let h : q n < q own = ltb-true (q n) (q own) e in (omega arith, omega arith)
+    go false e = let h : q own ≤ q n = ltb-false (q n) (q own) e in (omega arith, omega arith)
 
 -- the two cases have two numbers for C
 kind-differs : kindOf Same ≡ kindOf (Group 0) → ⊥
@@ -90,15 +98,6 @@ module _ (w v : World) (k : Kind) (claim out : List ℕ) where
       go true e = refl
       go false e = absurd (kind-differs (ap kindOf e))
 
-  -- the marks that both sheets have
-  both-have : (shared (w .n) (v .n) ≤ q (w .n)) × (shared (w .n) (v .n) ≤ q (v .n))
-  unfolding shared pick
-  both-have = go (ltb (q (w .n)) (q (v .n))) refl
-    where
-      go : (b : Bool) → ltb (q (w .n)) (q (v .n)) ≡ b → (pick b (q (w .n)) (q (v .n)) ≤ q (w .n)) × (pick b (q (w .n)) (q (v .n)) ≤ q (v .n))
-      go true e = let h : q (w .n) < q (v .n) = ltb-true _ _ e in (omega arith, omega arith)
-      go false e = let h : q (v .n) ≤ q (w .n) = ltb-false _ _ e in (omega arith, omega arith)
-
   pub named : (g : ℕ) → whereOf w bringing .found ≡ Group g → Names w v bringing g
   unfolding Finds staleAs
   named g e =
@@ -106,7 +105,7 @@ module _ (w v : World) (k : Kind) (claim out : List ℕ) where
       let s : whereOf w bringing ≡ finding = where-stale w bringing t in
       let h : finding .found ≡ Group g = sym (ap (λ (x : Where). x .found) s) ∙ e in
       let f = rw h at (finds (w .code) (w .marks) (v .marks) (shared (w .n) (v .n)) 0) in
-      let b = both-have in
+      let b = shared-held (w .n) (v .n) in
       record {
         number = by-found (Group g) h t;
         pairs = rw s (omega (arith, f .4));

@@ -30,7 +30,7 @@ use Rattle.definition.proofs.Refusals.{of-first, given-first}
 use Rattle.sheet_definition.proofs.Sheet.{check-from-last-mark}
 use Rattle.sheet_definition.proofs.Writes.{same-refl, same-eq, marks-kept, Rewritten, rewritten, length-digest}
 use Rattle.sheet_definition.proofs.Marks.{state-of-mark, digest-from-mark, rounds-from-mark, mark-written, marks-after-work}
-use Rattle.sheet_definition.proofs.Outcomes.{isStale, accepted, by-answer, done-exactly, stale-exactly}
+use Rattle.sheet_definition.proofs.Outcomes.{stale-answers, isStale, accepted, by-answer, done-exactly, stale-exactly}
 use Rattle.sheet_definition.proofs.Refused.{Fits}
 use Rattle.sheet_definition.proofs.Fair.{Fair, Proper, groups-stay}
 
@@ -118,11 +118,11 @@ module _ (w : World) (s : Save) (p : Proper w s) where
         none = λ h i. refl;
       })
       (λ e t. record {
-        when-done = λ h. absurd (omega (arith, p .answered));
+        when-done = λ h. absurd (stale-answers (p .answered) h);
         when-stale = λ h. check-rounds w (p .room e .sheet-room);
         none = λ h i. absurd (i (p .answered));
       })
-      (λ e t. record { when-done = λ h. work (p .room e) (p .fair e); when-stale = λ h. absurd (omega arith); none = λ h i. absurd (h refl) })
+      (λ e t. record { when-done = λ h. work (p .room e) (p .fair e); when-stale = λ h. absurd (stale-answers h refl); none = λ h i. absurd (h refl) })
     where
       work : Fits w (s .out) → Fair w (s .edit) → roundsBefore w (s .edit) + reworked w (s .edit) .rounds ≡ saveRounds w (s .edit)
       work r f =
@@ -185,7 +185,7 @@ module _ (w : World) (s : Save) (p : Proper w s) where
   unfolding refusedWith
   save-made t =
       by-answer w s (λ o. o .answer .number ≡ 0 → Made (w .code) (m + 1) (s .out) o)
-      (λ k e h. absurd (omega arith)) (λ e i h. absurd (omega (arith, p .answered))) (λ e i h. made t (p .fair e))
+      (λ k e h. absurd (omega arith)) (λ e i h. absurd (stale-answers (p .answered) h)) (λ e i h. made t (p .fair e))
 
   -- marks that are word for word those of a build are so afterwards, whatever the answer
   pub save-built : Written w 0 → Written (left (w .code) outcome) 0
@@ -206,7 +206,7 @@ module _ (w : World) (s : Save) (p : Proper w s) where
   unfolding refusedWith doneWith
   save-freed =
       by-answer w s (λ o. o .answer .number ≡ 0 → Freed w o)
-      (λ k e h. absurd (omega arith)) (λ e i h. absurd (omega (arith, p .answered))) (λ e i h. freed (p .fair e))
+      (λ k e h. absurd (omega arith)) (λ e i h. absurd (stale-answers (p .answered) h)) (λ e i h. freed (p .fair e))
     where
       freed : Fair w (s .edit) → Freed w (accepted w s)
       freed f =

@@ -13,7 +13,7 @@ use Rattle.definition.specs.Width.{widthAt}
 use Rattle.sheet_definition.specs.Sheet.{World, recordBytes, groupBytes, markWords, q, r}
 use Rattle.sheet_definition.specs.Marks.{held, markAt, stateFrom, markOf}
 use Rattle.sheet_definition.specs.Save.{doneWith, reworked}
-use Rattle.sheet_definition.specs.SheetCalls.{Call, oneRecord, editOf, saveOf, call}
+use Rattle.sheet_definition.specs.SheetCalls.{Call, oneRecord, editOf, saveOf, call, plain}
 use Rattle.sheet_definition.specs.SheetCalls.Kind.{Append, Drop}
 use Rattle.sheet_definition.proofs.Marks.{mark-worked}
 use Rattle.sheet_definition.proofs.Writes.{drop-take}
@@ -22,9 +22,9 @@ use Rattle.sheet_definition.proofs.Edits.{proper}
 use Rattle.sheet_definition.proofs.Claims.{accepted-is}
 
 -- "Drop zeroes the last record's bytes. When r = 0 it zeroes mark q."
-module _ (w : World) (claim out : List ℕ) (e : call w (record { kind = Drop; claim = claim; out = out }) .answer .number ≡ 0) where
+module _ (w : World) (claim out : List ℕ) (e : call w (plain Drop claim out) .answer .number ≡ 0) where
   abbrev dropped : Call
-  dropped = record { kind = Drop; claim = claim; out = out }
+  dropped = plain Drop claim out
 
   fewer : call w dropped .answer .count ≡ w .n - 1
   unfolding doneWith saveOf editOf oneRecord
@@ -39,9 +39,9 @@ module _ (w : World) (claim out : List ℕ) (e : call w (record { kind = Drop; c
   drop-mark h z = save-freed w (saveOf w dropped) (proper w dropped) e .words (q (w .n)) (omega (arith, fewer)) (omega arith)
 
 -- "Append writes record n, then works on from mark q under the new count, and writes mark q+1 when r = 3."
-module _ (w : World) (x claim out : List ℕ) (e : call w (record { kind = Append x; claim = claim; out = out }) .answer .number ≡ 0) where
+module _ (w : World) (x claim out : List ℕ) (e : call w (plain (Append x) claim out) .answer .number ≡ 0) where
   abbrev added : Call
-  added = record { kind = Append x; claim = claim; out = out }
+  added = plain (Append x) claim out
 
   pub append-mark : r (w .n) ≡ 3
       → markAt (call w added .marks) (q (w .n) + 1)

@@ -3,6 +3,7 @@
 pub mod Sheet
 pub mod Marks
 pub mod Refusals
+pub mod Own
 pub mod Save
 pub mod SheetCalls
 pub mod Run

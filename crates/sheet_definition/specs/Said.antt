@@ -7,18 +7,21 @@ use mathlib.Core.Bool.{true}
 use mathlib.Core.List.{List}
 use lib.ListN.{length, take, drop, replicate}
 use Rattle.sheet_definition.specs.declared.Answer.{Answer}
+use Rattle.sheet_definition.specs.declared.Found.{Found}
+use Rattle.sheet_definition.specs.declared.Found.the-variants.{Same, Group}
 use Rattle.definition.specs.Luffa.{luffa}
 use Rattle.definition.specs.Buffer.{Every, overwrite, joined}
-use Rattle.definition.specs.Refusal.{First, STALE, firstOf, known}
-use Rattle.sheet_definition.specs.Sheet.{World, most, recordBytes, markWords, q, checkRounds}
+use Rattle.definition.specs.Refusal.{First, STALE, STALE-TAIL, firstOf, known}
+use Rattle.sheet_definition.specs.Sheet.{World, most, recordBytes, groupBytes, markWords, q, checkRounds}
 use Rattle.sheet_definition.specs.Marks.{held, markAt, markOf, stateAfter, TrueMarks}
 use Rattle.sheet_definition.specs.Save.{SheetOutcome, Edit, saveRounds}
-use Rattle.sheet_definition.specs.SheetCalls.{Call, call, saveOf}
+use Rattle.sheet_definition.specs.Own.{used, shared, stale}
+use Rattle.sheet_definition.specs.SheetCalls.{Call, call, saveOf, whereOf}
 use Rattle.sheet_definition.specs.Run.{next, applied}
 
 -- the numbers that answer a stale claim
 abbrev pub Stale : (number : ℕ) → Type 0
-Stale number = number ≡ STALE
+Stale number = stale number ≡ true
 
 -- "records of 40 bytes"
 abbrev pub Forty : List (List ℕ) → Type 0
@@ -101,6 +104,34 @@ pub record After (w : World) (c : Call) (rs : List (List ℕ)) : Type 0 where
       → drop (recordBytes * e) (call w c .sheet) ≡ drop (recordBytes * e) (w .sheet)
   -- the rounds are document 01's
   pub rounds : Rounds (call w c .answer) (saveRounds w (saveOf w c .edit)) (checkRounds (w .code) (w .n))
+
+-- marks of two sheets that agree, after one and up to another: "the first w blocks of the marks"
+abbrev pub Agree : (code : ℕ) → (held own : List ℕ) → (after to : ℕ) → Type 0
+Agree code held own after to = (m : ℕ) → after < m → m ≤ to → used code held m ≡ used code own m
+
+-- what the comparing of k pairs after mark g says: "that all shared marks agree", or "the first pair that differs, mark g+1", and as many pairs as
+-- were compared
+unfoldable pub Finds : (code : ℕ) → (held own : List ℕ) → (k g : ℕ) → Found → (pairs : ℕ) → Type 0
+Finds code held own k g Same pairs = Agree code held own g (g + k) × (pairs ≡ k)
+Finds code held own k g (Group h) pairs =
+    (g ≤ h) × (h < g + k) × Agree code held own g h × (used code held (h + 1) ≡ used code own (h + 1) → ⊥) × (g + pairs ≡ h + 1)
+
+-- a stale save whose planner brings his own sheet v's marks: a group is named
+pub record Names (w v : World) (c : Call) (g : ℕ) : Type 0 where
+  pub number : call w c .answer .number ≡ STALE
+  pub pairs : whereOf w c .pairs ≡ g + 1
+  pub both-have : (g < q (w .n)) × (g < q (v .n))
+  -- the groups before it share their marks
+  pub marks-before : Agree (w .code) (w .marks) (v .marks) 0 g
+  -- "If both sets of marks are true to their sheets at this code, the records of the named group differ."
+  pub records-differ : v .code ≡ w .code → TrueMarks w → TrueMarks v → recordBytes * w .n ≤ length (w .sheet) → recordBytes * v .n ≤ length (v .sheet)
+      → take groupBytes (drop (groupBytes * g) (w .sheet)) ≡ take groupBytes (drop (groupBytes * g) (v .sheet)) → ⊥
+
+-- or none is, as "all shared marks agree"
+pub record Tail (w v : World) (c : Call) : Type 0 where
+  pub number : call w c .answer .number ≡ STALE-TAIL
+  pub pairs : whereOf w c .pairs ≡ shared (w .n) (v .n)
+  pub marks-agree : Agree (w .code) (w .marks) (v .marks) 0 (shared (w .n) (v .n))
 
 -- a sheet as it was, and its digest handed out
 pub record Restored (code n : ℕ) (sheet out : List ℕ) (o : SheetOutcome) : Type 0 where

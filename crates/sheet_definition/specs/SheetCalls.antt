@@ -1,4 +1,4 @@
--- The sheet calls: document 01, "Sheet and marks", and document 02, Q-4. Build, and the kinds of save, each by its refusals and its edit.
+-- The sheet calls: document 01, "Sheet and marks", and document 02, Q-4 and Q-6. Build, and the kinds of save, each by its refusals and its edit.
 use Prim.Native.Nat.{ℕ, _+_, _-_, _*_}
 use mathlib.Core.Bool.{Bool, true, false}
 use mathlib.Core.List.{List, [], _∷_}
@@ -12,6 +12,10 @@ use Rattle.sheet_definition.specs.Sheet.{World, recordBytes, markWords, 
 use Rattle.sheet_definition.specs.Refusals.{Lengths, lengthsOf, buildRefusals, changeRefusals, appendRefusals, dropRefusals, batchRefusals}
 use Rattle.sheet_definition.specs.Marks.{markOf, worked}
 use Rattle.sheet_definition.specs.Save.{SheetOutcome, refusedWith, doneWith, Edit, Save, saveOutcome}
+use Rattle.sheet_definition.specs.declared.Where.{Where}
+use Rattle.sheet_definition.specs.declared.Located.{Located}
+use Rattle.sheet_definition.specs.Own.{Own, withOwn, shared, compared, nowhere, staleAs, stale}
+use Rattle.sheet_definition.specs.Own.Own.{None, Brought}
 
 -- a world as its parts are lent
 abbrev pub lent : (code : ℕ) → (sheet : List ℕ) → (n : ℕ) → (marks : List ℕ) → World
@@ -34,10 +38,15 @@ pub data Kind : Type 0 where
   -- many changes: their places, and the new records one after the other
   Batch : (places records' : List ℕ) → Kind
 
+-- a save may bring the planner's own count and marks
 pub record Call : Type 0 where
   pub kind : Kind
   pub claim : List ℕ
+  pub own : Own
   pub out : List ℕ
+
+abbrev pub plain : Kind → (claim out : List ℕ) → Call
+plain k claim out = record { kind = k; claim = claim; own = None; out = out }
 
 unfoldable pub refusalsOf : Lengths → (claimLength : ℕ) → Kind → List Refusal
 refusalsOf l k (Change place x) = changeRefusals l place (length x) k
@@ -98,12 +107,21 @@ editOf w (Append x) = oneRecord w (w .n) x (w .n + 1) (w .marks)
 editOf w Drop = oneRecord w (w .n - 1) (replicate recordBytes 0) (w .n - 1) (withoutLast (w .n) (w .marks))
 editOf w (Batch places x) = manyRecords w places x
 
+-- "When it is stale, compare": the marks held with the planner's own, and the number that answers then
+abbrev pub comparing : World → Own → Where
+comparing w None = nowhere
+comparing w (Brought n marks) = compared (w .code) (w .marks) marks (shared (w .n) n) 0
+
+abbrev pub staleNumberOf : World → Own → ℕ
+staleNumberOf w None = STALE
+staleNumberOf w (Brought n marks) = staleAs (comparing w (Brought n marks) .found)
+
 unfoldable pub saveOf : World → Call → Save
 saveOf w c =
     record {
-      refusals = refusalsOf (lengthsOf w (c .out)) (length (c .claim)) (c .kind);
+      refusals = withOwn (w .code) (c .own) (refusalsOf (lengthsOf w (c .out)) (length (c .claim)) (c .kind));
       claim = c .claim;
-      staleNumber = STALE;
+      staleNumber = staleNumberOf w (c .own);
       edit = editOf w (c .kind);
       out = c .out;
     }
@@ -111,21 +129,46 @@ saveOf w c =
 unfoldable pub call : World → Call → SheetOutcome
 call w c = saveOutcome w (saveOf w c)
 
+-- where it is stale; "other answers say same and 0 pairs"
+unfoldable pub whereOf : World → Call → Where
+whereOf w c = pick (stale (call w c .answer .number)) (comparing w (c .own)) nowhere
+
 -- and by the arguments of each
 abbrev pub changing : (place : ℕ) → (record' claim out : List ℕ) → Call
-changing place x claim out = record { kind = Change place x; claim = claim; out = out }
+changing place x = plain (Change place x)
 
 abbrev pub changeOutcome : (code : ℕ) → (sheet : List ℕ) → (n : ℕ) → (marks : List ℕ) → (place : ℕ) → (record' claim out : List ℕ) → SheetOutcome
 changeOutcome code sheet n marks place x claim out = call (lent code sheet n marks) (changing place x claim out)
 
 abbrev pub appendOutcome : (code : ℕ) → (sheet : List ℕ) → (n : ℕ) → (marks record' claim out : List ℕ) → SheetOutcome
-appendOutcome code sheet n marks x claim out = call (lent code sheet n marks) (record { kind = Append x; claim = claim; out = out })
+appendOutcome code sheet n marks x claim out = call (lent code sheet n marks) (plain (Append x) claim out)
 
 abbrev pub dropOutcome : (code : ℕ) → (sheet : List ℕ) → (n : ℕ) → (marks claim out : List ℕ) → SheetOutcome
-dropOutcome code sheet n marks claim out = call (lent code sheet n marks) (record { kind = Drop; claim = claim; out = out })
+dropOutcome code sheet n marks claim out = call (lent code sheet n marks) (plain Drop claim out)
 
 abbrev pub batching : (places records' claim out : List ℕ) → Call
-batching places x claim out = record { kind = Batch places x; claim = claim; out = out }
+batching places x = plain (Batch places x)
 
 abbrev pub batchOutcome : (code : ℕ) → (sheet : List ℕ) → (n : ℕ) → (marks places records' claim out : List ℕ) → SheetOutcome
 batchOutcome code sheet n marks places x claim out = call (lent code sheet n marks) (batching places x claim out)
+
+-- a save that brings the planner's own marks: its answer says where, and the buffers are as they are at the end
+pub record OwnOutcome : Type 0 where
+  pub answer : Located
+  pub sheet : List ℕ
+  pub marks : List ℕ
+  pub out : List ℕ
+
+unfoldable pub saying : SheetOutcome → Where → OwnOutcome
+saying o v =
+    record {
+      answer = record { number = o .answer .number; count = o .answer .count; rounds = o .answer .rounds; place = v };
+      sheet = o .sheet;
+      marks = o .marks;
+      out = o .out;
+    }
+
+unfoldable pub ownOutcome : World → Kind → (claim : List ℕ) → (own : ℕ) → (ownMarks out : List ℕ) → OwnOutcome
+ownOutcome w k claim own ownMarks out =
+    let c : Call = record { kind = k; claim = claim; own = Brought own ownMarks; out = out } in
+    saying (call w c) (whereOf w c)

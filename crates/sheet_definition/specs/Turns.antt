@@ -5,7 +5,7 @@ use mathlib.Core.List.{List, [], _∷_}
 use lib.ListN.{length, take, drop}
 use Rattle.sheet_definition.specs.Sheet.{World, recordBytes}
 use Rattle.sheet_definition.specs.Save.{checked}
-use Rattle.sheet_definition.specs.SheetCalls.{Kind, Call, call, batching}
+use Rattle.sheet_definition.specs.SheetCalls.{Kind, Call, plain, call, batching}
 use Rattle.sheet_definition.specs.SheetCalls.Kind.{Change}
 use Rattle.sheet_definition.specs.Run.{next, run, listAfter}
 
@@ -21,7 +21,7 @@ listAfterAll (k ∷ ks) rs = listAfterAll ks (listAfter k rs)
 
 -- a save "with the right claim": the digest that the check of the sheet held works out, from true marks or false
 unfoldable pub rightly : World → Kind → (out : List ℕ) → Call
-rightly w k out = record { kind = k; claim = checked w .digest; out = out }
+rightly w k out = plain k (checked w .digest) out
 
 -- "saved one by one", each lent such a buffer for its digest
 unfoldable pub oneByOne : World → List Kind → (out : List ℕ) → List Call

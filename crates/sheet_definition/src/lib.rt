@@ -16,3 +16,34 @@ pub struct Answer {
     pub count: u64,
     pub rounds: u64,
 }
+
+// What the comparing of a stale save's marks found (document 02, Q-6): "same marks shared, or names group g".
+pub enum Found {
+    Same,
+    Group(usize),
+}
+
+// "beside the number of pairs compared"
+pub struct Where {
+    pub found: Found,
+    pub pairs: u64,
+}
+
+// The answer of a save that brings the planner's own marks, and where.
+pub struct Located {
+    pub number: u64,
+    pub count: u64,
+    pub rounds: u64,
+    pub place: Where,
+}
+
+// The same for C: kind 0 is same, 1 a group, which is 0 where it is the same.
+#[repr(C)]
+pub struct LocatedAnswer {
+    pub number: u64,
+    pub count: u64,
+    pub rounds: u64,
+    pub kind: u64,
+    pub group: u64,
+    pub pairs: u64,
+}

@@ -11,7 +11,7 @@ use mir.Val.{boolByte}
 use denote.Ref.{now}
 use borrow.Author.Needs.{needs}
 use Rattle.sheet_definition.specs.Sheet.{World, recordBytes}
-use Rattle.sheet_definition.specs.SheetCalls.{Call, refusalsOf, oneRecord, editOf, saveOf}
+use Rattle.sheet_definition.specs.SheetCalls.{Call, refusalsOf, oneRecord, editOf, saveOf, plain}
 use Rattle.sheet_definition.specs.SheetCalls.Kind.{Append}
 use Rattle.sheet_definition.proofs.Edits.{append-size, proper}
 use Rattle.sheet_marks.specs.Total.{cleared}
@@ -28,7 +28,7 @@ abbrev lent : tie.After-append → World
 lent j = let a = entered j .args in record { code = a .code; n = a .n; sheet = now (a .sheet); marks = now (a .marks) }
 
 abbrev asked : tie.After-append → Call
-asked j = let a = entered j .args in record { kind = Append (now (a .«record»)); claim = now (a .claim); out = now (a .out) }
+asked j = let a = entered j .args in plain (Append (now (a .«record»))) (now (a .claim)) (now (a .out))
 
 -- the count that is asked for
 abbrev more : ℕ → ℕ
@@ -53,14 +53,14 @@ save-requires : tie.Need-save-requires
 unfolding saveOf refusalsOf
 save-requires c κs =
     let j = c .before .before .before in
-    judged (lent j) (asked j) _ _ _ (j .append .ensures) (one j)
+    judged (lent j) (asked j .kind) (asked j .claim) (asked j .out) _ _ _ (j .append .ensures) (one j)
 
 returns : tie.Need-returns
 unfolding saveOf refusalsOf
 returns c =
     let s = c .before .before .before .before .before .before in
     let j = s .before .before .before .before in
-    saved (lent j) (asked j) _ _ _ (j .append .ensures) (one j) (s .save .ensures)
+    saved (lent j) (asked j .kind) (asked j .claim) (asked j .out) _ _ _ (j .append .ensures) (one j) (s .save .ensures)
 
 pub append-spec : {M : Type 1} → statement M
 append-spec = tie.close (tie.spec (λ c κs. tt) (λ c. search needs) add-more save-requires (λ c. search needs) (λ c. search needs) (λ c. search needs) returns)

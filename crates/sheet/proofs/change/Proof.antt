@@ -6,7 +6,7 @@ use lib.ListN.{length}
 use denote.Ref.{now}
 use borrow.Author.Needs.{needs}
 use Rattle.sheet_definition.specs.Sheet.{World, recordBytes}
-use Rattle.sheet_definition.specs.SheetCalls.{Call, refusalsOf, oneRecord, editOf, saveOf}
+use Rattle.sheet_definition.specs.SheetCalls.{Call, refusalsOf, oneRecord, editOf, saveOf, plain}
 use Rattle.sheet_definition.specs.SheetCalls.Kind.{Change}
 use Rattle.sheet_definition.proofs.Edits.{change-size}
 use Rattle.sheet_marks.specs.Total.{cleared}
@@ -23,7 +23,7 @@ abbrev lent : tie.After-change → World
 lent j = let a = entered j .args in record { code = a .code; n = a .n; sheet = now (a .sheet); marks = now (a .marks) }
 
 abbrev asked : tie.After-change → Call
-asked j = let a = entered j .args in record { kind = Change (a .place) (now (a .«record»)); claim = now (a .claim); out = now (a .out) }
+asked j = let a = entered j .args in plain (Change (a .place) (now (a .«record»))) (now (a .claim)) (now (a .out))
 
 -- the record has its size, and the edit is the call's
 one : (j : tie.After-change) → j .change .result ≡ 0 → let a = entered j .args in
@@ -37,14 +37,14 @@ save-requires : tie.Need-save-requires
 unfolding saveOf refusalsOf
 save-requires c κs =
     let j = c .before .before .before in
-    judged (lent j) (asked j) _ _ _ (j .change .ensures) (one j)
+    judged (lent j) (asked j .kind) (asked j .claim) (asked j .out) _ _ _ (j .change .ensures) (one j)
 
 returns : tie.Need-returns
 unfolding saveOf refusalsOf
 returns c =
     let s = c .before .before .before .before .before .before in
     let j = s .before .before .before .before in
-    saved (lent j) (asked j) _ _ _ (j .change .ensures) (one j) (s .save .ensures)
+    saved (lent j) (asked j .kind) (asked j .claim) (asked j .out) _ _ _ (j .change .ensures) (one j) (s .save .ensures)
 
 pub change-spec : {M : Type 1} → statement M
 change-spec = tie.close (tie.spec (λ c κs. tt) save-requires (λ c. search needs) (λ c. search needs) (λ c. search needs) returns)

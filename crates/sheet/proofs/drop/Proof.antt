@@ -11,7 +11,7 @@ use mir.Val.{boolByte}
 use denote.Ref.{now}
 use borrow.Author.Needs.{needs}
 use Rattle.sheet_definition.specs.Sheet.{World, recordBytes}
-use Rattle.sheet_definition.specs.SheetCalls.{Call, refusalsOf, oneRecord, editOf, saveOf}
+use Rattle.sheet_definition.specs.SheetCalls.{Call, refusalsOf, oneRecord, editOf, saveOf, plain}
 use Rattle.sheet_definition.specs.SheetCalls.Kind.{Drop}
 use Rattle.sheet_definition.proofs.Edits.{proper}
 use Rattle.sheet_marks.specs.Total.{cleared}
@@ -28,7 +28,7 @@ abbrev lent : tie.After-drop → World
 lent j = let a = entered j .args in record { code = a .code; n = a .n; sheet = now (a .sheet); marks = now (a .marks) }
 
 abbrev asked : tie.After-drop → Call
-asked j = let a = entered j .args in record { kind = Drop; claim = now (a .claim); out = now (a .out) }
+asked j = let a = entered j .args in plain Drop (now (a .claim)) (now (a .out))
 
 -- the last place
 abbrev last : ℕ → ℕ
@@ -53,14 +53,14 @@ save-requires : tie.Need-save-requires
 unfolding saveOf refusalsOf
 save-requires c κs =
     let j = c .before .before .before .before in
-    judged (lent j) (asked j) _ _ _ (j .drop .ensures) (one j)
+    judged (lent j) (asked j .kind) (asked j .claim) (asked j .out) _ _ _ (j .drop .ensures) (one j)
 
 returns : tie.Need-returns
 unfolding saveOf refusalsOf
 returns c =
     let s = c .before .before .before .before .before .before in
     let j = s .before .before .before .before .before in
-    saved (lent j) (asked j) _ _ _ (j .drop .ensures) (one j) (s .save .ensures)
+    saved (lent j) (asked j .kind) (asked j .claim) (asked j .out) _ _ _ (j .drop .ensures) (one j) (s .save .ensures)
 
 pub drop-spec : {M : Type 1} → statement M
 drop-spec = tie.close (tie.spec (λ c κs. tt) (λ c. search needs) sub-last (λ c. search needs) save-requires (λ c. search needs) (λ c. search needs) (λ c. search needs) returns)
