@@ -1,2 +1,3 @@
 -- What the walks over a lent working state share.
 pub mod Borrowed
+pub mod Owned

@@ -5,7 +5,9 @@ ghost use mathlib.Core.Path.{_≡_};
 ghost use Rattle.hash_definition.specs.Calls.{digestBitsOutcome, digestOutcome, startOutcome, feedBitsOutcome, feedOutcome, finishOutcome};
 ghost use Rattle.hash_definition.specs.Lent.{lentStartOutcome, lentFeedBitsOutcome, lentFeedOutcome, lentFinishOutcome};
 ghost use Rattle.hash_definition.specs.Output.{outputBitsOutcome, outputOutcome, finishOutputOutcome, lentFinishOutputOutcome};
-ghost use Rattle.sheet_definition.specs.SheetCalls.{buildOutcome, changeOutcome, appendOutcome, dropOutcome, batchOutcome};
+ghost use Rattle.sheet_definition.specs.SheetCalls.{buildOutcome, changeOutcome, appendOutcome, dropOutcome, batchOutcome, ownOutcome};
+ghost use Rattle.sheet_definition.specs.SheetCalls.Kind.{Change, Append, Drop};
+ghost use Rattle.sheet_definition.specs.Own.{locatedAnswer};
 ghost use Rattle.mend_definition.specs.Mend.{mendOutcome, mendAnswer};
 ghost use Rattle.plan_definition.specs.Check.{verdict, answerOf};
 ghost use Rattle.brine_definition.specs.Statement.{brineOutcome};
@@ -15,6 +17,7 @@ use hash_definition::OutputAnswer;
 use mend_definition::MendAnswer;
 use plan_definition::ContentAnswer;
 use sheet_definition::Answer;
+use sheet_definition::LocatedAnswer;
 
 // The digest of a message in one call.
 #[no_mangle]
@@ -237,6 +240,80 @@ pub extern "C" fn luffa_sheet_drop(
     ensures { λ r. ⌜ record { answer = r; sheet = now (sheet .exit); marks = now (marks .exit); out = now (out .exit) } ≡ dropOutcome code (now (sheet .entry)) n (now (marks .entry)) (now (claim .entry)) (now (out .entry)) ⌝ }
 {
     sheet::drop(code, sheet, n, marks, claim, out)
+}
+
+// A record replaced, and where the sheet differs if it is stale.
+#[no_mangle]
+pub extern "C" fn luffa_sheet_change_own(
+    code: usize,
+    sheet: &mut [u8],
+    n: usize,
+    marks: &mut [u32],
+    place: usize,
+    record: &[u8],
+    claim: &[u8],
+    owned: usize,
+    own: &[u32],
+    out: &mut [u8],
+) -> LocatedAnswer
+    ensures { λ r. ⌜ r ≡ locatedAnswer (ownOutcome (record { code = code; n = n; sheet = now (sheet .entry); marks = now (marks .entry) }) (Change place (now («record» .entry))) (now (claim .entry)) owned (now (own .entry)) (now (out .entry)) .answer) ⌝ }
+    ensures { λ r. ⌜ now (sheet .exit) ≡ ownOutcome (record { code = code; n = n; sheet = now (sheet .entry); marks = now (marks .entry) }) (Change place (now («record» .entry))) (now (claim .entry)) owned (now (own .entry)) (now (out .entry)) .sheet ⌝ }
+    ensures { λ r. ⌜ now (marks .exit) ≡ ownOutcome (record { code = code; n = n; sheet = now (sheet .entry); marks = now (marks .entry) }) (Change place (now («record» .entry))) (now (claim .entry)) owned (now (own .entry)) (now (out .entry)) .marks ⌝ }
+    ensures { λ r. ⌜ now (out .exit) ≡ ownOutcome (record { code = code; n = n; sheet = now (sheet .entry); marks = now (marks .entry) }) (Change place (now («record» .entry))) (now (claim .entry)) owned (now (own .entry)) (now (out .entry)) .out ⌝ }
+{
+    sheet_own::answer(sheet_own::change(
+        code,
+        sheet,
+        n,
+        marks,
+        place,
+        record,
+        claim,
+        owned,
+        own,
+        out,
+    ))
+}
+
+// A record added at the end, and where the sheet differs if it is stale.
+#[no_mangle]
+pub extern "C" fn luffa_sheet_append_own(
+    code: usize,
+    sheet: &mut [u8],
+    n: usize,
+    marks: &mut [u32],
+    record: &[u8],
+    claim: &[u8],
+    owned: usize,
+    own: &[u32],
+    out: &mut [u8],
+) -> LocatedAnswer
+    ensures { λ r. ⌜ r ≡ locatedAnswer (ownOutcome (record { code = code; n = n; sheet = now (sheet .entry); marks = now (marks .entry) }) (Append (now («record» .entry))) (now (claim .entry)) owned (now (own .entry)) (now (out .entry)) .answer) ⌝ }
+    ensures { λ r. ⌜ now (sheet .exit) ≡ ownOutcome (record { code = code; n = n; sheet = now (sheet .entry); marks = now (marks .entry) }) (Append (now («record» .entry))) (now (claim .entry)) owned (now (own .entry)) (now (out .entry)) .sheet ⌝ }
+    ensures { λ r. ⌜ now (marks .exit) ≡ ownOutcome (record { code = code; n = n; sheet = now (sheet .entry); marks = now (marks .entry) }) (Append (now («record» .entry))) (now (claim .entry)) owned (now (own .entry)) (now (out .entry)) .marks ⌝ }
+    ensures { λ r. ⌜ now (out .exit) ≡ ownOutcome (record { code = code; n = n; sheet = now (sheet .entry); marks = now (marks .entry) }) (Append (now («record» .entry))) (now (claim .entry)) owned (now (own .entry)) (now (out .entry)) .out ⌝ }
+{
+    sheet_own::answer(sheet_own::append(code, sheet, n, marks, record, claim, owned, own, out))
+}
+
+// The last record taken away, and where the sheet differs if it is stale.
+#[no_mangle]
+pub extern "C" fn luffa_sheet_drop_own(
+    code: usize,
+    sheet: &mut [u8],
+    n: usize,
+    marks: &mut [u32],
+    claim: &[u8],
+    owned: usize,
+    own: &[u32],
+    out: &mut [u8],
+) -> LocatedAnswer
+    ensures { λ r. ⌜ r ≡ locatedAnswer (ownOutcome (record { code = code; n = n; sheet = now (sheet .entry); marks = now (marks .entry) }) Drop (now (claim .entry)) owned (now (own .entry)) (now (out .entry)) .answer) ⌝ }
+    ensures { λ r. ⌜ now (sheet .exit) ≡ ownOutcome (record { code = code; n = n; sheet = now (sheet .entry); marks = now (marks .entry) }) Drop (now (claim .entry)) owned (now (own .entry)) (now (out .entry)) .sheet ⌝ }
+    ensures { λ r. ⌜ now (marks .exit) ≡ ownOutcome (record { code = code; n = n; sheet = now (sheet .entry); marks = now (marks .entry) }) Drop (now (claim .entry)) owned (now (own .entry)) (now (out .entry)) .marks ⌝ }
+    ensures { λ r. ⌜ now (out .exit) ≡ ownOutcome (record { code = code; n = n; sheet = now (sheet .entry); marks = now (marks .entry) }) Drop (now (claim .entry)) owned (now (own .entry)) (now (out .entry)) .out ⌝ }
+{
+    sheet_own::answer(sheet_own::drop(code, sheet, n, marks, claim, owned, own, out))
 }
 
 // The marks of a sheet, those that are wrong replaced.

@@ -1,3 +1,5 @@
 -- Laws that the saves with a planner's own marks stand on.
 pub mod Told
 pub mod Marks
+pub mod Judged
+pub mod Placed

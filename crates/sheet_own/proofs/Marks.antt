@@ -1,10 +1,10 @@
 -- The words of a mark as they are read for comparing, and the comparing step by step.
 -- Assumes nothing.
-use mathlib.Core.Path.{_≡_, refl, ap, _∙_}
+use mathlib.Core.Path.{_≡_, ap}
 use mathlib.Core.Bool.{true, false, not}
 use mathlib.Core.List.{List}
-use Prim.Native.Nat.{ℕ, zero, suc, _+_, _-_, _*_, _<_, _≤_}
-use native.Mathlib.Nat.{add-zero}
+use Prim.Native.Nat.{ℕ, suc, _+_, _-_, _*_, _<_, _≤_}
+use native.Mathlib.Nat.{add-zero, zero-add}
 use native.Mathlib.Omega.{arith}
 use lib.ListN.{length}
 use borrow.Author.Tests.{not-true, not-false}
@@ -29,6 +29,11 @@ words-read w marks m h = ap (λ (s : State). wordsOfAll (five s)) (read-at marks
 -- so many pairs before
 abbrev pub before : (pairs : ℕ) → Where → Where
 before pairs v = record { found = v .found; pairs = pairs + v .pairs }
+
+pub begins : (code : ℕ) (held own : List ℕ) (last : ℕ) → before 0 (compared code held own (last - 0) 0) ≡ compared code held own last 0
+begins code held own last =
+    let e : last - 0 ≡ last = omega arith in
+    rw (e, zero-add (compared code held own last 0 .pairs))
 
 module _ (code : ℕ) (held own : List ℕ) (last g pairs : ℕ) (h : g < last) where
   left : last - g ≡ suc (last - (g + 1))

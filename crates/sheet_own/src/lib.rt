@@ -6,10 +6,10 @@ ghost use mathlib.Core.List.{[], _∷_};
 ghost use Prim.Native.Nat.{_+_, _*_, _≤_};
 ghost use lib.ListN.{length};
 ghost use Rattle.definition.specs.Buffer.{same};
-ghost use Rattle.definition.specs.Refusal.{firstOf};
+ghost use Rattle.definition.specs.Refusal.{firstOf, whenDone};
 ghost use Rattle.sheet_definition.specs.Sheet.{markWords, q};
 ghost use Rattle.sheet_definition.specs.Marks.{markAt, stateFrom, markOf};
-ghost use Rattle.sheet_definition.specs.Own.{ownRefusal, shared, compared, locatedAnswer};
+ghost use Rattle.sheet_definition.specs.Own.{ownRefusal, shared, compared, staleAs, kindOf, groupOf, locatedAnswer};
 ghost use Rattle.sheet_definition.specs.SheetCalls.{ownOutcome};
 ghost use Rattle.sheet_definition.specs.SheetCalls.Kind.{Change, Append, Drop};
 ghost use Rattle.sheet_own.specs.Located.{turnedAway, located};
@@ -48,6 +48,13 @@ fn judge(code: usize, n: usize, marks: &[u32]) -> u32
     refusals::when(sheet_marks::differs(&a, &b), refusals::OWN)
 }
 
+// The plain call's number, and after 10 also 15.
+fn after_ten(ten: u32, code: usize, n: usize, marks: &[u32]) -> u32
+    ensures { λ r. ⌜ r ≡ whenDone ten (firstOf (ownRefusal code n (now (marks .entry)) ∷ [])) ten ⌝ }
+{
+    refusals::first(ten, judge(code, n, marks))
+}
+
 // The marks after mark 0 that both sheets have.
 fn both(n: usize, own: usize) -> usize
     ensures { λ r. ⌜ r ≡ shared n own ⌝ }
@@ -82,6 +89,16 @@ fn compare(code: usize, held: &[u32], own: &[u32], last: usize) -> Where
     }
 }
 
+// The number of a stale save: 11 where a group is named, 16 where all shared marks agree.
+fn stale(found: Found) -> u32
+    ensures { λ r. ⌜ r ≡ staleAs found ⌝ }
+{
+    match found {
+        Found::Same => refusals::STALE_TAIL,
+        Found::Group(g) => refusals::STALE,
+    }
+}
+
 // The answer of a call that its arguments refuse.
 fn refused(number: u32, n: usize) -> Located
     ensures { λ r. ⌜ r ≡ turnedAway number n ⌝ }
@@ -97,10 +114,10 @@ fn refused(number: u32, n: usize) -> Located
     }
 }
 
-// The plain call's answer, and where it is stale: 11 in a group, 16 where all shared marks agree.
-fn locate(code: usize, n: usize, marks: &[u32], own_n: usize, own: &[u32], a: Answer) -> Located
-    requires { ⌜ (markWords * (q n + 1) ≤ length (now marks)) × (markWords * (q own_n + 1) ≤ length (now own)) ⌝ }
-    ensures { λ r. ⌜ r ≡ located code n (now (marks .entry)) own_n (now (own .entry)) a ⌝ }
+// The plain call's answer, and where it is stale, the place.
+fn locate(code: usize, n: usize, marks: &[u32], owned: usize, own: &[u32], a: Answer) -> Located
+    requires { ⌜ (markWords * (q n + 1) ≤ length (now marks)) × (markWords * (q owned + 1) ≤ length (now own)) ⌝ }
+    ensures { λ r. ⌜ r ≡ located code n (now (marks .entry)) owned (now (own .entry)) a ⌝ }
 {
     if a.number != refusals::STALE as u64 {
         return Located {
@@ -113,14 +130,10 @@ fn locate(code: usize, n: usize, marks: &[u32], own_n: usize, own: &[u32], a: An
             },
         };
     }
-    let at = compare(code, marks, own, both(n, own_n));
+    let at = compare(code, marks, own, both(n, owned));
     let found = at.found;
-    let number = match found {
-        Found::Same => refusals::STALE_TAIL,
-        Found::Group(g) => refusals::STALE,
-    };
     Located {
-        number: number as u64,
+        number: stale(found) as u64,
         count: a.count,
         rounds: a.rounds,
         place: at,
@@ -136,19 +149,28 @@ pub fn change(
     place: usize,
     record: &[u8],
     claim: &[u8],
-    own_n: usize,
+    owned: usize,
     own: &[u32],
     out: &mut [u8],
 ) -> Located
-    ensures { λ r. ⌜ record { answer = r; sheet = now (sheet .exit); marks = now (marks .exit); out = now (out .exit) } ≡ ownOutcome (record { code = code; n = n; sheet = now (sheet .entry); marks = now (marks .entry) }) (Change place (now («record» .entry))) (now (claim .entry)) own_n (now (own .entry)) (now (out .entry)) ⌝ }
+    ensures { λ r. ⌜ record { answer = r; sheet = now (sheet .exit); marks = now (marks .exit); out = now (out .exit) } ≡ ownOutcome (record { code = code; n = n; sheet = now (sheet .entry); marks = now (marks .entry) }) (Change place (now («record» .entry))) (now (claim .entry)) owned (now (own .entry)) (now (out .entry)) ⌝ }
 {
-    let ten = sheet_judge::change(code, sheet.len(), n, marks.len(), place, record.len(), claim.len(), out.len());
-    let number = refusals::first(ten, judge(code, own_n, own));
+    let ten = sheet_judge::change(
+        code,
+        sheet.len(),
+        n,
+        marks.len(),
+        place,
+        record.len(),
+        claim.len(),
+        out.len(),
+    );
+    let number = after_ten(ten, code, owned, own);
     if number != DONE {
         return refused(number, n);
     }
     let a = sheet::change(code, sheet, n, marks, place, record, claim, out);
-    locate(code, n, marks, own_n, own, a)
+    locate(code, n, marks, owned, own, a)
 }
 
 // A record added at the end, by a planner who brings his own marks.
@@ -159,19 +181,27 @@ pub fn append(
     marks: &mut [u32],
     record: &[u8],
     claim: &[u8],
-    own_n: usize,
+    owned: usize,
     own: &[u32],
     out: &mut [u8],
 ) -> Located
-    ensures { λ r. ⌜ record { answer = r; sheet = now (sheet .exit); marks = now (marks .exit); out = now (out .exit) } ≡ ownOutcome (record { code = code; n = n; sheet = now (sheet .entry); marks = now (marks .entry) }) (Append (now («record» .entry))) (now (claim .entry)) own_n (now (own .entry)) (now (out .entry)) ⌝ }
+    ensures { λ r. ⌜ record { answer = r; sheet = now (sheet .exit); marks = now (marks .exit); out = now (out .exit) } ≡ ownOutcome (record { code = code; n = n; sheet = now (sheet .entry); marks = now (marks .entry) }) (Append (now («record» .entry))) (now (claim .entry)) owned (now (own .entry)) (now (out .entry)) ⌝ }
 {
-    let ten = sheet_judge::append(code, sheet.len(), n, marks.len(), record.len(), claim.len(), out.len());
-    let number = refusals::first(ten, judge(code, own_n, own));
+    let ten = sheet_judge::append(
+        code,
+        sheet.len(),
+        n,
+        marks.len(),
+        record.len(),
+        claim.len(),
+        out.len(),
+    );
+    let number = after_ten(ten, code, owned, own);
     if number != DONE {
         return refused(number, n);
     }
     let a = sheet::append(code, sheet, n, marks, record, claim, out);
-    locate(code, n, marks, own_n, own, a)
+    locate(code, n, marks, owned, own, a)
 }
 
 // The last record taken away, by a planner who brings his own marks.
@@ -181,41 +211,52 @@ pub fn drop(
     n: usize,
     marks: &mut [u32],
     claim: &[u8],
-    own_n: usize,
+    owned: usize,
     own: &[u32],
     out: &mut [u8],
 ) -> Located
-    ensures { λ r. ⌜ record { answer = r; sheet = now (sheet .exit); marks = now (marks .exit); out = now (out .exit) } ≡ ownOutcome (record { code = code; n = n; sheet = now (sheet .entry); marks = now (marks .entry) }) Drop (now (claim .entry)) own_n (now (own .entry)) (now (out .entry)) ⌝ }
+    ensures { λ r. ⌜ record { answer = r; sheet = now (sheet .exit); marks = now (marks .exit); out = now (out .exit) } ≡ ownOutcome (record { code = code; n = n; sheet = now (sheet .entry); marks = now (marks .entry) }) Drop (now (claim .entry)) owned (now (own .entry)) (now (out .entry)) ⌝ }
 {
     let ten = sheet_judge::drop(code, sheet.len(), n, marks.len(), claim.len(), out.len());
-    let number = refusals::first(ten, judge(code, own_n, own));
+    let number = after_ten(ten, code, owned, own);
     if number != DONE {
         return refused(number, n);
     }
     let a = sheet::drop(code, sheet, n, marks, claim, out);
-    locate(code, n, marks, own_n, own, a)
+    locate(code, n, marks, owned, own, a)
 }
 
-// The answer for C: which case was found by its number, and the group, 0 where none is named.
+// What was found, for C: which case, and the group, 0 where none is named.
+fn kind(found: Found) -> u64
+    ensures { λ r. ⌜ r ≡ kindOf found ⌝ }
+{
+    match found {
+        Found::Same => 0,
+        Found::Group(g) => 1,
+    }
+}
+
+fn group(found: Found) -> u64
+    ensures { λ r. ⌜ r ≡ groupOf found ⌝ }
+{
+    match found {
+        Found::Same => 0,
+        Found::Group(g) => g as u64,
+    }
+}
+
+// The answer for C.
 pub fn answer(a: Located) -> LocatedAnswer
     ensures { λ r. ⌜ r ≡ locatedAnswer a ⌝ }
 {
     let at = a.place;
     let found = at.found;
-    let kind = match found {
-        Found::Same => 0,
-        Found::Group(g) => 1,
-    };
-    let group = match found {
-        Found::Same => 0,
-        Found::Group(g) => g as u64,
-    };
     LocatedAnswer {
         number: a.number,
         count: a.count,
         rounds: a.rounds,
-        kind: kind,
-        group: group,
+        kind: kind(found),
+        group: group(found),
         pairs: at.pairs,
     }
 }
