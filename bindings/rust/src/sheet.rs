@@ -7,6 +7,8 @@ use std::fmt;
 
 mod batch;
 #[cfg(test)]
+mod held;
+#[cfg(test)]
 mod history;
 mod mend;
 #[cfg(test)]

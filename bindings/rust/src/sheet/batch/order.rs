@@ -1,7 +1,7 @@
 //! The order of the refusals of many changes: each alone and with every set of the others.
 
-use super::tests::Held;
 use crate::random::Numbers;
+use crate::sheet::held::Held;
 use crate::sheet::history::Plain;
 use crate::sheet::tests::sheet;
 use crate::{Code, ffi};
