@@ -1,6 +1,8 @@
 //! The refusals of the library, by their numbers.
 
+use crate::ffi::{self, WhereAnswer};
 use std::fmt;
+use std::ops::Range;
 
 #[cfg(test)]
 mod tests;
@@ -50,6 +52,17 @@ pub enum Error {
         /// The rounds of Luffa in which that was found out.
         rounds: u64,
     },
+    /// 11 of a save that brings an [`Opened`](crate::Opened) sheet: its marks and those held agree up to a group
+    /// of four records, and differ after it. So these records differ, if the marks are those of the sheet that
+    /// was seen; [`Error::places`] has their places.
+    StaleGroup {
+        /// The group, counted from 0.
+        group: usize,
+        /// The pairs of marks that were compared, the last of which differs.
+        pairs: usize,
+        /// The rounds of Luffa in which the claim was found out.
+        rounds: u64,
+    },
     /// 12: longer output of no word, or of more than 64, was asked for.
     Words,
     /// 13: a batch of more than 64 sheets.
@@ -57,6 +70,20 @@ pub enum Error {
     /// 14: more than 64 changes in one save, or a place that isn't above the one before it.
     /// [`Sheet::change_all`](crate::Sheet::change_all) alone gives it.
     Set,
+    /// 15: what was [opened](crate::Opened) has more than 1,024 records or too few words for their marks, or
+    /// its first mark doesn't begin as that of a sheet at this code.
+    /// [`Opened::from_parts`](crate::Opened::from_parts) alone leads to it.
+    Own,
+    /// 16, in the place of 11, of such a save: all marks agree that both sheets have. [`Error::places`] has the
+    /// places after them.
+    StaleTail {
+        /// The pairs of marks that were compared, one for each four records that both sheets have.
+        pairs: usize,
+        /// The number of records of the longer sheet.
+        longer: usize,
+        /// The rounds of Luffa in which the claim was found out.
+        rounds: u64,
+    },
     /// 17: more than 7 odd bits, odd bits without a byte that has them, or a record whose message has
     /// ended with odd bits.
     Odd,
@@ -79,12 +106,68 @@ impl Error {
             Error::Full => 8,
             Error::Size => 9,
             Error::Claim => 10,
-            Error::Stale { .. } => 11,
+            Error::Stale { .. } | Error::StaleGroup { .. } => 11,
             Error::Words => 12,
             Error::Batch => 13,
             Error::Set => 14,
+            Error::Own => 15,
+            Error::StaleTail { .. } => 16,
             Error::Odd => 17,
             Error::List => 25,
+        }
+    }
+
+    /// Whether somebody else has saved since: 11 or 16, of any save.
+    ///
+    /// ```
+    /// use luffa::{Code, Sheet};
+    ///
+    /// let mut sheet = Sheet::new(Code::Luffa256);
+    /// let ben = sheet.opened();
+    /// sheet.append(&[1; 40], &sheet.digest())?;
+    /// assert!(sheet.append(&[2; 40], &ben.digest()).unwrap_err().is_stale());
+    /// assert!(sheet.append_from(&[2; 40], &ben).unwrap_err().is_stale());
+    /// # Ok::<(), luffa::Error>(())
+    /// ```
+    pub const fn is_stale(self) -> bool {
+        matches!(self.number(), 11 | 16)
+    }
+
+    /// Where to look for what somebody else has saved, if the error says so: the places of the four records of
+    /// [`Error::StaleGroup`], or those after the marks of [`Error::StaleTail`] to the end of the longer sheet.
+    ///
+    /// ```
+    /// use luffa::Error;
+    ///
+    /// let group = Error::StaleGroup { group: 24, pairs: 25, rounds: 2 };
+    /// assert_eq!(group.places(), Some(96..100));
+    /// let tail = Error::StaleTail { pairs: 25, longer: 103, rounds: 2 };
+    /// assert_eq!(tail.places(), Some(100..103));
+    /// assert_eq!(Error::Stale { rounds: 2 }.places(), None);
+    /// ```
+    pub const fn places(self) -> Option<Range<usize>> {
+        match self {
+            Error::StaleGroup { group, .. } => Some(4 * group..4 * group + 4),
+            Error::StaleTail { pairs, longer, .. } => Some(4 * pairs..longer),
+            _ => None,
+        }
+    }
+
+    /// What a save gave that brought an opened sheet; the longer of that and the one held has so many records.
+    pub(crate) fn judge_where(answer: &WhereAnswer, longer: usize) -> Result<(), Error> {
+        let (pairs, rounds) = (answer.pairs as usize, answer.rounds);
+        match (answer.number, answer.kind) {
+            (11, ffi::WHERE_GROUP) => Err(Error::StaleGroup {
+                group: answer.group as usize,
+                pairs,
+                rounds,
+            }),
+            (16, _) => Err(Error::StaleTail {
+                pairs,
+                longer,
+                rounds,
+            }),
+            (number, _) => Error::judge(number, rounds),
         }
     }
 
@@ -108,6 +191,7 @@ impl Error {
             Error::Words,
             Error::Batch,
             Error::Set,
+            Error::Own,
             Error::Odd,
             Error::List,
         ];
@@ -121,6 +205,7 @@ impl Error {
 
 impl fmt::Display for Error {
     fn fmt(&self, f: &mut fmt::Formatter) -> fmt::Result {
+        let stale = "the sheet isn't the one whose digest is claimed";
         f.write_str(match self {
             Error::Width => "the code isn't 1 to 4",
             Error::Out => "the output is shorter than the digest, or its last word isn't whole",
@@ -132,10 +217,18 @@ impl fmt::Display for Error {
             Error::Full => "the sheet has no room for another record",
             Error::Size => "the new record isn't 40 bytes",
             Error::Claim => "the claimed digest has another length",
-            Error::Stale { .. } => "the sheet isn't the one whose digest is claimed",
+            Error::Stale { .. } => stale,
+            Error::StaleGroup { group, .. } => {
+                let first = 4 * group;
+                return write!(f, "{stale}: look at places {first} to {}", first + 3);
+            }
+            Error::StaleTail { pairs, .. } => {
+                return write!(f, "{stale}: look from place {} on", 4 * pairs);
+            }
             Error::Words => "no word is asked for, or more than 64",
             Error::Batch => "a batch is at most 64 sheets",
             Error::Set => "there are more than 64 changes in one save, or their places don't rise",
+            Error::Own => "these can't be the count and the marks of a sheet at this code",
             Error::Odd => "no message has these odd bits, or it has ended with odd bits already",
             Error::List => "a list has fewer places than the batch has records",
         })

@@ -24,6 +24,20 @@ pub struct Answer {
     pub rounds: u64,
 }
 
+/// struct luffa_sheet_where.
+#[repr(C)]
+pub struct WhereAnswer {
+    pub number: u64,
+    pub count: u64,
+    pub rounds: u64,
+    pub kind: u64,
+    pub group: u64,
+    pub pairs: u64,
+}
+
+/// LUFFA_WHERE_GROUP: a group is named.
+pub const WHERE_GROUP: u64 = 1;
+
 /// struct luffa_mend_answer.
 #[repr(C)]
 pub struct MendAnswer {
@@ -178,6 +192,56 @@ unsafe extern "C" {
         out: *mut u8,
         out_len: usize,
     ) -> Answer;
+    fn luffa_sheet_change_own(
+        code: usize,
+        sheet: *mut u8,
+        sheet_len: usize,
+        n: usize,
+        marks: *mut u32,
+        marks_len: usize,
+        place: usize,
+        record: *const u8,
+        record_len: usize,
+        claim: *const u8,
+        claim_len: usize,
+        own_n: usize,
+        own: *const u32,
+        own_len: usize,
+        out: *mut u8,
+        out_len: usize,
+    ) -> WhereAnswer;
+    fn luffa_sheet_append_own(
+        code: usize,
+        sheet: *mut u8,
+        sheet_len: usize,
+        n: usize,
+        marks: *mut u32,
+        marks_len: usize,
+        record: *const u8,
+        record_len: usize,
+        claim: *const u8,
+        claim_len: usize,
+        own_n: usize,
+        own: *const u32,
+        own_len: usize,
+        out: *mut u8,
+        out_len: usize,
+    ) -> WhereAnswer;
+    fn luffa_sheet_drop_own(
+        code: usize,
+        sheet: *mut u8,
+        sheet_len: usize,
+        n: usize,
+        marks: *mut u32,
+        marks_len: usize,
+        claim: *const u8,
+        claim_len: usize,
+        own_n: usize,
+        own: *const u32,
+        own_len: usize,
+        out: *mut u8,
+        out_len: usize,
+    ) -> WhereAnswer;
     fn luffa_plan_check(sheet: *const u8, sheet_len: usize, n: usize) -> ContentAnswer;
     fn luffa_plan_brine(
         sheets: *const u8,
@@ -435,6 +499,93 @@ pub fn drop_last(lent: &mut Lent, claim: &[u8], out: &mut [u8]) -> Answer {
             lent.marks.len(),
             claim.as_ptr(),
             claim.len(),
+            out.as_mut_ptr(),
+            out.len(),
+        )
+    }
+}
+
+/// A planner's own sheet as it is lent to a save: the number of its records, and its marks.
+pub struct Own<'a> {
+    pub n: usize,
+    pub marks: &'a [u32],
+}
+
+pub fn change_own(
+    lent: &mut Lent,
+    place: usize,
+    record: &[u8],
+    claim: &[u8],
+    own: &Own,
+    out: &mut [u8],
+) -> WhereAnswer {
+    // SAFETY: as in `change`; `own.marks` are read within their length, which is in words.
+    unsafe {
+        luffa_sheet_change_own(
+            lent.code,
+            lent.sheet.as_mut_ptr(),
+            lent.sheet.len(),
+            lent.n,
+            lent.marks.as_mut_ptr(),
+            lent.marks.len(),
+            place,
+            record.as_ptr(),
+            record.len(),
+            claim.as_ptr(),
+            claim.len(),
+            own.n,
+            own.marks.as_ptr(),
+            own.marks.len(),
+            out.as_mut_ptr(),
+            out.len(),
+        )
+    }
+}
+
+pub fn append_own(
+    lent: &mut Lent,
+    record: &[u8],
+    claim: &[u8],
+    own: &Own,
+    out: &mut [u8],
+) -> WhereAnswer {
+    // SAFETY: as in `change_own`.
+    unsafe {
+        luffa_sheet_append_own(
+            lent.code,
+            lent.sheet.as_mut_ptr(),
+            lent.sheet.len(),
+            lent.n,
+            lent.marks.as_mut_ptr(),
+            lent.marks.len(),
+            record.as_ptr(),
+            record.len(),
+            claim.as_ptr(),
+            claim.len(),
+            own.n,
+            own.marks.as_ptr(),
+            own.marks.len(),
+            out.as_mut_ptr(),
+            out.len(),
+        )
+    }
+}
+
+pub fn drop_own(lent: &mut Lent, claim: &[u8], own: &Own, out: &mut [u8]) -> WhereAnswer {
+    // SAFETY: as in `change_own`, with no new record.
+    unsafe {
+        luffa_sheet_drop_own(
+            lent.code,
+            lent.sheet.as_mut_ptr(),
+            lent.sheet.len(),
+            lent.n,
+            lent.marks.as_mut_ptr(),
+            lent.marks.len(),
+            claim.as_ptr(),
+            claim.len(),
+            own.n,
+            own.marks.as_ptr(),
+            own.marks.len(),
             out.as_mut_ptr(),
             out.len(),
         )

@@ -54,6 +54,19 @@
 //!
 //! [`Sheet::change_all`] saves many changes at once, all of them or none.
 //!
+//! A planner who keeps the whole of what was [`Opened`] is told which four records to look at:
+//!
+//! ```
+//! use luffa::{Code, Error, Sheet};
+//!
+//! let mut sheet = Sheet::from_records(Code::Luffa256, &[[1; 40]; 1000])?;
+//! let (anna, ben) = (sheet.opened(), sheet.opened());
+//! sheet.change_from(613, &[2; 40], &anna)?;
+//! let refused = sheet.append_from(&[3; 40], &ben).unwrap_err();
+//! assert_eq!(refused.places(), Some(612..616));
+//! # Ok::<(), Error>(())
+//! ```
+//!
 //! A sheet's marks, which spare a save the hashing of it all, may be kept with the records;
 //! [`Sheet::from_kept`] mends those that a disk has spoiled, and says which was the first.
 //!
@@ -82,7 +95,7 @@ pub use code::Code;
 pub use digest::{Digest, ParseDigestError};
 pub use error::Error;
 pub use hash::{Luffa224, Luffa256, Luffa384, Luffa512, OUTPUT_BYTES_MOST, RECORD_BYTES};
-pub use sheet::{Mended, Saved, Sheet};
+pub use sheet::{Mended, Opened, Saved, Sheet};
 
 /// The example in the README runs too.
 #[cfg(doctest)]

@@ -11,10 +11,12 @@ mod held;
 #[cfg(test)]
 mod history;
 mod mend;
+mod opened;
 #[cfg(test)]
 mod tests;
 
 pub use mend::Mended;
+pub use opened::Opened;
 
 /// The words that the marks of n records need.
 const fn marks_for(n: usize) -> usize {
@@ -31,7 +33,8 @@ pub(crate) fn records_in(bytes: &[u8]) -> usize {
 ///
 /// A save carries a claim, the digest of the sheet that its planner saw. If somebody else has saved
 /// since, the answer is [`Error::Stale`] and nothing is changed. A claim speaks of content: a sheet
-/// that was changed and changed back has its old digest again.
+/// that was changed and changed back has its old digest again. A save that brings an [`Opened`] sheet is
+/// told where to look.
 ///
 /// The sheet holds the library's marks and lets nobody write to them, so that a save hashes only what
 /// comes after the place it changes and always answers the digest of the whole sheet. Whoever keeps
@@ -314,23 +317,29 @@ impl Sheet {
         }
     }
 
-    /// A save: lends the sheet to the call, and takes over the number of records and the digest that it
-    /// answers. The library writes nothing where it refuses.
+    /// A save. The library writes nothing where it refuses.
     fn save(&mut self, call: impl FnOnce(&mut Lent, &mut [u8]) -> Answer) -> Result<Saved, Error> {
+        let (digest, answer) = self.lend(call);
+        Error::judge(answer.number, answer.rounds)?;
+        Ok(self.taken_over(digest, answer.count, answer.rounds))
+    }
+
+    /// Lends the sheet to a save: the digest that it wrote, if it was done, and its answer.
+    fn lend<T>(&mut self, call: impl FnOnce(&mut Lent, &mut [u8]) -> T) -> (Digest, T) {
         let mut lent = Lent {
             code: self.code.number(),
             sheet: self.records.as_flattened_mut(),
             n: self.n,
             marks: &mut self.marks,
         };
-        let (digest, answer) = Digest::written(self.code, |out| call(&mut lent, out));
-        Error::judge(answer.number, answer.rounds)?;
-        self.n = answer.count as usize;
+        Digest::written(self.code, |out| call(&mut lent, out))
+    }
+
+    /// Takes over the digest and the number of records of a save that was done.
+    fn taken_over(&mut self, digest: Digest, count: u64, rounds: u64) -> Saved {
+        self.n = count as usize;
         self.digest = digest;
-        Ok(Saved {
-            digest,
-            rounds: answer.rounds,
-        })
+        Saved { digest, rounds }
     }
 }
 

@@ -1,16 +1,17 @@
 //! The refusals: luffa.h's numbers, document 01's each met from the library itself. Those of longer output
 //! are met in hash/output/tests.rs too, those of a mend in sheet/mend/refusals.rs, those of many changes in
-//! sheet/batch, and those that a brine statement alone gives in plan/brine/refusals.rs.
+//! sheet/batch, those of a save that brings what was opened in sheet/opened, and those that a brine statement
+//! alone gives in plan/brine/refusals.rs.
 
 use super::Error;
-use crate::ffi::{self, Lent};
-use crate::{Code, Digest, Luffa256, Sheet};
+use crate::ffi::{self, Lent, WhereAnswer};
+use crate::{Code, Digest, Luffa256, Opened, Sheet};
 
 #[test]
 fn numbers_and_sentences() {
     assert_eq!(Error::judge(0, 0), Ok(()));
     let mut sentences = Vec::new();
-    for number in (1..=14).chain([17, 25]) {
+    for number in (1..=15).chain([17, 25]) {
         let error = Error::judge(number, 5).unwrap_err();
         assert_eq!(u64::from(error.number()), number);
         let source: &dyn std::error::Error = &error;
@@ -19,13 +20,63 @@ fn numbers_and_sentences() {
     assert_eq!(Error::judge(11, 5), Err(Error::Stale { rounds: 5 }));
     sentences.sort();
     sentences.dedup();
-    assert_eq!(sentences.len(), 16);
+    assert_eq!(sentences.len(), 17);
 }
 
+/// A stale save that brings what was opened has the plain one's sentence, and where to look.
 #[test]
-#[should_panic(expected = "libluffa.a answered 15")]
+fn stale_with_a_place() {
+    let answer = |number, kind| WhereAnswer {
+        number,
+        count: 31,
+        rounds: 5,
+        kind,
+        group: 6,
+        pairs: 7,
+    };
+    let group = Error::judge_where(&answer(11, 1), 40).unwrap_err();
+    let tail = Error::judge_where(&answer(16, 0), 40).unwrap_err();
+    let (pairs, rounds) = (7, 5);
+    assert_eq!(
+        group,
+        Error::StaleGroup {
+            group: 6,
+            pairs,
+            rounds
+        }
+    );
+    assert_eq!(
+        tail,
+        Error::StaleTail {
+            pairs,
+            longer: 40,
+            rounds
+        }
+    );
+    assert_eq!((group.number(), group.places()), (11, Some(24..28)));
+    assert_eq!((tail.number(), tail.places()), (16, Some(28..40)));
+    let stale = Error::Stale { rounds };
+    assert_eq!(
+        group.to_string(),
+        format!("{stale}: look at places 24 to 27")
+    );
+    assert_eq!(tail.to_string(), format!("{stale}: look from place 28 on"));
+    assert!([stale, group, tail].into_iter().all(Error::is_stale));
+    // Others are what they are in every call.
+    assert_eq!(Error::judge_where(&answer(0, 0), 40), Ok(()));
+    for number in (1..=10).chain([15]) {
+        let refused = Error::judge_where(&answer(number, 0), 40);
+        assert_eq!(refused, Error::judge(number, 0));
+        let refused = refused.unwrap_err();
+        assert!(!refused.is_stale() && refused.places().is_none());
+    }
+}
+
+/// No call that a stale answer has no place in is answered 16.
+#[test]
+#[should_panic(expected = "libluffa.a answered 16")]
 fn an_unknown_number() {
-    let _ = Error::judge(15, 0);
+    let _ = Error::judge(16, 0);
 }
 
 /// What the public calls can meet.
@@ -64,6 +115,8 @@ fn met_by_callers() {
     assert_eq!(sheet.change(0, &new, &other), Err(Error::Claim));
     let rounds = 2;
     assert_eq!(sheet.drop_last(&stale), Err(Error::Stale { rounds }));
+    let from = Opened::from_parts(claim, 1024, [0; 10_280]);
+    assert_eq!(sheet.drop_last_from(&from), Err(Error::Own));
     // Where several hold, the lowest number is given.
     assert_eq!(sheet.change(1024, &new, &other), Err(Error::Place));
     assert_eq!(sheet.append(&new, &stale), Err(Error::Full));

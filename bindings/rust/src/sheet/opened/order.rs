@@ -1,0 +1,143 @@
+//! The order of the refusals of a save that brings what was opened: each alone and with every set of the others.
+
+use super::Sheet;
+use super::call::Call;
+use super::tests::Kind;
+use crate::Code;
+use crate::sheet::tests::sheet;
+
+pub const MAX: usize = usize::MAX;
+pub const WIDE: usize = 1 << 32;
+
+type Way = fn(&mut Call);
+
+// Ways to meet what each kind of save alone is refused for. They come before the others.
+const NO_PLACE: &[Way] = &[
+    |c| c.place = c.held.n,
+    |c| c.place += WIDE,
+    |c| c.place = MAX,
+];
+const NO_ROOM: &[Way] = &[
+    |c| c.held.sheet.truncate(40 * c.held.n),
+    |c| c.held.sheet.truncate(40 * c.held.n + 39),
+];
+const NO_RECORD: &[Way] = &[|c| c.held.n = 0];
+
+/// Ways to meet the others. None undoes one that stands before it here, unless it has the earlier number of the
+/// two in the order.
+const WAYS: [(u64, &[Way]); 8] = [
+    (
+        1,
+        &[
+            |c| c.held.code = 0,
+            |c| c.held.code = 5,
+            |c| c.held.code += WIDE,
+            |c| c.held.code = MAX,
+        ],
+    ),
+    (
+        2,
+        &[
+            |c| c.held.out.clear(),
+            |c| c.held.out.truncate(c.claim.len() - 1),
+        ],
+    ),
+    (
+        6,
+        &[
+            |c| c.held.marks.clear(),
+            |c| c.held.marks.truncate(40 * (c.held.n / 4)),
+            |c| c.held.marks.truncate(40 * (c.held.n / 4) + 39),
+        ],
+    ),
+    (
+        5,
+        &[
+            |c| {
+                c.held.n = c.held.n.max(1);
+                c.held.sheet.truncate(40 * c.held.n - 1);
+            },
+            |c| {
+                c.held.n = c.held.n.max(1);
+                c.held.sheet.clear();
+            },
+            |c| c.held.n = 1025,
+            |c| c.held.n += WIDE,
+            |c| c.held.n = MAX,
+        ],
+    ),
+    (
+        9,
+        &[
+            |c| c.record.push(1),
+            |c| c.record.truncate(39),
+            |c| c.record.clear(),
+            |c| c.record.extend([1; 40]),
+        ],
+    ),
+    (
+        11,
+        &[
+            |c| c.claim[0] ^= 0x80,
+            |c| *c.claim.last_mut().unwrap() ^= 1,
+        ],
+    ),
+    (
+        10,
+        &[
+            |c| c.claim.push(0),
+            |c| c.claim.truncate(c.claim.len() - 1),
+            |c| c.claim.clear(),
+        ],
+    ),
+    (
+        15,
+        &[
+            |c| c.own_n = 1025,
+            |c| c.own_n += WIDE,
+            |c| c.own_n = MAX,
+            |c| c.own.clear(),
+            |c| c.own.truncate(40 * (c.own_n / 4) + 39),
+            |c| c.own[0] ^= 1,
+            |c| c.own[23] ^= 1 << 31,
+        ],
+    ),
+];
+
+#[test]
+fn every_set_of_refusals() {
+    // In the order in which they are judged, where 11 stands for 16 too.
+    for (kind, order, own) in [
+        (Kind::Change, &[1, 2, 5, 6, 7, 9, 10, 15, 11][..], NO_PLACE),
+        (Kind::Append, &[1, 2, 5, 6, 8, 9, 10, 15, 11], NO_ROOM),
+        (Kind::Drop, &[1, 2, 5, 6, 7, 10, 15, 11], NO_RECORD),
+    ] {
+        let ways: Vec<_> = [(order[4], own)]
+            .into_iter()
+            .chain(WAYS)
+            .filter(|(number, _)| order.contains(number))
+            .collect();
+        for code in Code::ALL {
+            // So many records at the beginning are the same: a group is named, or the tail.
+            let calls = [(8, 13, 0), (9, 9, 9), (10, 3, 0), (11, 10, 4)].map(|(n, own_n, same)| {
+                let held = sheet(code, n);
+                let mut own = held.records()[..same].to_vec();
+                own.resize(own_n, [1; 40]);
+                Call::new(kind, &held, &Sheet::from_records(code, &own).unwrap())
+            });
+            let sets = 0..1 << ways.len();
+            for (set, way) in sets.flat_map(|set| (0..7).map(move |way| (set, way))) {
+                let mut call = calls[(set + way) % 4].clone();
+                let mut wrong = vec![];
+                for (k, (number, ways)) in ways.iter().enumerate() {
+                    if set >> k & 1 == 1 {
+                        ways[way % ways.len()](&mut call);
+                        wrong.push(number);
+                    }
+                }
+                let first = order.iter().find(|number| wrong.contains(number));
+                call.answers(first.copied().unwrap_or(0));
+            }
+        }
+    }
+}
