@@ -6,7 +6,9 @@
 
 use crate::luffa::*;
 use crate::sheet::{Record, Saved, Sheet, MARK_WORDS, MOST};
-use crate::{check_batch, check_bits, check_brine, check_mend, check_output, check_plan};
+use crate::{
+    check_batch, check_bits, check_brine, check_mend, check_output, check_own, check_plan,
+};
 use std::fmt::Debug;
 
 /// The hash values of "abc" (Appendix C).
@@ -140,6 +142,7 @@ pub fn differences() -> Vec<String> {
     check_brine::differences(&mut report);
     check_mend::differences(&mut report, numbers);
     check_batch::differences(&mut report, numbers);
+    check_own::differences(&mut report, numbers);
     report.0
 }
 

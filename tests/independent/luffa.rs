@@ -47,7 +47,7 @@ pub const S: [u8; 16] = [13, 14, 0, 1, 5, 10, 7, 6, 11, 3, 9, 12, 15, 8, 2, 4];
 const SIGMA: [usize; 4] = [2, 14, 10, 1];
 
 /// Starting variables V_j (Appendix A).
-const V: [[u32; 8]; 5] = [
+pub const V: [[u32; 8]; 5] = [
     [
         0x6d251e69, 0x44b051e0, 0x4eaa6fb4, 0xdbf78465, //
         0x6e292011, 0x90152df4, 0xee058139, 0xdef610bb,

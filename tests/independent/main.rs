@@ -13,10 +13,12 @@ mod check_bits;
 mod check_brine;
 mod check_mend;
 mod check_output;
+mod check_own;
 mod check_plan;
 mod luffa;
 mod mend;
 mod output;
+mod own;
 mod plan;
 mod sheet;
 
