@@ -124,7 +124,9 @@ impl Lent {
 
     /// Elements of N bytes, which must stand at a multiple of N.
     pub fn elements<const N: usize>(elements: Vec<[u8; N]>) -> Lent {
-        (EDGE..EDGE + N)
+        // Memory mostly begins at a multiple, and then the first is one.
+        let before = EDGE.next_multiple_of(N);
+        (before..before + N)
             .map(|before| Lent::after(before, elements.as_flattened()))
             .find(|lent| lent.all[lent.before..].as_ptr() as usize % N == 0)
             .expect("memory at a multiple")
@@ -160,7 +162,9 @@ pub fn agree<T: PartialEq + Debug>(
     }
     for (k, (lent, wanted)) in after.iter().enumerate() {
         let wanted = Lent::after(lent.before, wanted);
-        if let Some(at) = (0..wanted.all.len()).find(|&i| lent.all[i] != wanted.all[i]) {
+        // Whether they differ is sooner found than where.
+        let differs = || (0..wanted.all.len()).find(|&i| lent.all[i] != wanted.all[i]);
+        if let Some(at) = (lent.all != wanted.all).then(differs).flatten() {
             let at = at as isize - lent.before as isize;
             writeln!(different, "  buffer {k} differs, first at byte {at}").unwrap();
             writeln!(different, "    holds  {}", hex(lent.inside())).unwrap();
