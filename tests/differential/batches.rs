@@ -47,7 +47,7 @@ fn one_by_one(before: &Given, after: &Given, answer: &Answer) -> Agreed {
     for (&place, record) in before.places.iter().zip(records) {
         turned.place = place;
         turned.record = record.to_vec();
-        let changed = calls::change(&mut turned);
+        let changed = calls::alone(Call::Change, &mut turned);
         if changed.number != 0 {
             return Err(format!("{what}: the change at {place} {changed:?}\n"));
         }
@@ -248,25 +248,23 @@ impl Numbers {
         format!("claim: {way}")
     }
 
-    /// Has this refusal of a batch hold, and says how.
-    fn refuse_by(&mut self, number: u64, history: &History, given: &mut Given) -> String {
-        let n = history.n;
-        let d = digest_bytes(history.code);
+    /// Has this refusal of any save of n records hold, and says how: 1, 2, 5, 6 or 10.
+    pub fn refuse_save(&mut self, number: u64, n: usize, given: &mut Given) -> String {
         match number {
             1 => {
                 given.code = self.one_of(&NO_CODES);
                 format!("code {}", given.code)
             }
             2 => {
+                let d = digest_bytes(given.code);
                 let (name, length) = self.one_of(&[("a byte", d - 1), ("all", 0)]);
                 given.out.truncate(length);
                 format!("output {name} short")
             }
             5 => self.refuse_sheet(&mut given.n, &mut given.sheet, &mut given.marks),
             6 => self.refuse_marks(n, &mut given.marks),
-            7 => self.refuse_place(n, given),
-            9 => self.refuse_records(given),
-            10 => {
+            _ => {
+                let d = digest_bytes(given.code);
                 let way = self.one_of(&OTHER_CLAIMS);
                 let any = [1, 2, 3, 4].map(digest_bytes);
                 let other: Vec<usize> = any.into_iter().filter(|&bytes| bytes != d).collect();
@@ -279,20 +277,29 @@ impl Numbers {
                 given.claim.resize(length, 0);
                 format!("claim {way}")
             }
+        }
+    }
+
+    /// Has this refusal of a batch hold, and says how.
+    fn refuse_by(&mut self, number: u64, n: usize, given: &mut Given) -> String {
+        match number {
+            7 => self.refuse_place(n, given),
+            9 => self.refuse_records(given),
+            11 => self.stale_claim(given),
             14 => self.refuse_set(n, given),
-            _ => self.stale_claim(given),
+            _ => self.refuse_save(number, n, given),
         }
     }
 
     /// Has one refusal hold, or some of them, and says how.
-    fn refuse_some(&mut self, history: &History, given: &mut Given) -> Vec<(u64, String)> {
+    fn refuse_some(&mut self, n: usize, given: &mut Given) -> Vec<(u64, String)> {
         let one = 1 << self.between(0, REFUSALS.len() - 1);
         let some = self.between(1, (1 << REFUSALS.len()) - 1);
         let hold = self.one_of(&[one, some]);
         let mut ways = vec![];
         for (k, number) in REFUSALS.into_iter().enumerate() {
             if hold >> k & 1 == 1 {
-                ways.push((number, self.refuse_by(number, history, given)));
+                ways.push((number, self.refuse_by(number, n, given)));
             }
         }
         ways
@@ -324,7 +331,7 @@ pub fn batch(numbers: &mut Numbers, met: &mut Met) -> Agreed {
     given.claim = sheet_model::held(&given).0;
     for _ in 0..REFUSED {
         let mut refused = given.clone();
-        let ways = numbers.refuse_some(&history, &mut refused);
+        let ways = numbers.refuse_some(n, &mut refused);
         let answer = history.clone().call(Call::Batch, refused, met)?;
         see_refused(met, &ways, &answer);
     }

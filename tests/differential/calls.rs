@@ -4,6 +4,8 @@
 
 use crate::brine_model::{self, Batch, BrineAnswer};
 use crate::mend_model::{MendAnswer, Mending};
+use crate::own::Own;
+use crate::own_model::{self, OwnAnswer};
 use crate::plan_model::{self, ContentAnswer};
 use crate::sheet_model::{self, Answer, Call, Given};
 use std::fmt::{Debug, Write};
@@ -84,6 +86,56 @@ extern "C" {
         out: *mut u8,
         out_len: usize,
     ) -> Answer;
+    fn luffa_sheet_change_own(
+        code: usize,
+        sheet: *mut u8,
+        sheet_len: usize,
+        n: usize,
+        marks: *mut u32,
+        marks_len: usize,
+        place: usize,
+        record: *const u8,
+        record_len: usize,
+        claim: *const u8,
+        claim_len: usize,
+        own_n: usize,
+        own: *const u32,
+        own_len: usize,
+        out: *mut u8,
+        out_len: usize,
+    ) -> OwnAnswer;
+    fn luffa_sheet_append_own(
+        code: usize,
+        sheet: *mut u8,
+        sheet_len: usize,
+        n: usize,
+        marks: *mut u32,
+        marks_len: usize,
+        record: *const u8,
+        record_len: usize,
+        claim: *const u8,
+        claim_len: usize,
+        own_n: usize,
+        own: *const u32,
+        own_len: usize,
+        out: *mut u8,
+        out_len: usize,
+    ) -> OwnAnswer;
+    fn luffa_sheet_drop_own(
+        code: usize,
+        sheet: *mut u8,
+        sheet_len: usize,
+        n: usize,
+        marks: *mut u32,
+        marks_len: usize,
+        claim: *const u8,
+        claim_len: usize,
+        own_n: usize,
+        own: *const u32,
+        own_len: usize,
+        out: *mut u8,
+        out_len: usize,
+    ) -> OwnAnswer;
     fn luffa_plan_check(sheet: *const u8, sheet_len: usize, n: usize) -> ContentAnswer;
     fn luffa_plan_brine(
         sheets: *const u8,
@@ -239,9 +291,9 @@ fn archive(call: Call, given: &Given) -> (Answer, [Lent; 7]) {
     (answer, lent)
 }
 
-/// A change that the archive makes alone, and what it left.
-pub fn change(given: &mut Given) -> Answer {
-    let (answer, [sheet, marks, .., out]) = archive(Call::Change, given);
+/// A call that the archive makes alone, and what it left.
+pub fn alone(call: Call, given: &mut Given) -> Answer {
+    let (answer, [sheet, marks, .., out]) = archive(call, given);
     given.sheet = sheet.inside().to_vec();
     let words = marks.inside().as_chunks().0.iter();
     given.marks = words.map(|&word| u32::from_ne_bytes(word)).collect();
@@ -261,17 +313,80 @@ pub fn sheet(call: Call, given: &mut Given) -> Result<Answer, String> {
         "{call:?} at code {code}, n = {n}, place {place}: buffer 0 the sheet, 1 the marks, 2 the record, \
          3 the places, 4 their records, 5 the claim, 6 the output"
     );
-    let left: Vec<(Lent, &[u8])> = lent
-        .into_iter()
-        .zip(after.each_ref().map(Lent::inside))
-        .collect();
-    agree(
-        &what,
-        &before.each_ref().map(Lent::inside),
-        got,
-        want,
-        &left,
-    )
+    agree_lent(&what, &before, got, want, lent, &after)
+}
+
+/// Compares numbers and all that was lent, as it was, as the archive left it and as the model did.
+fn agree_lent<T: PartialEq + Debug, const N: usize>(
+    call: &str,
+    before: &[Lent; N],
+    got: T,
+    want: T,
+    lent: [Lent; N],
+    after: &[Lent; N],
+) -> Result<T, String> {
+    let inside = after.each_ref().map(Lent::inside);
+    let left: Vec<(Lent, &[u8])> = lent.into_iter().zip(inside).collect();
+    agree(call, &before.each_ref().map(Lent::inside), got, want, &left)
+}
+
+/// What the saves with own marks are lent: the sheet, the marks, the record, the claim, the planner's marks and the
+/// output.
+fn lend_own(given: &Given, own: &Own) -> [Lent; 6] {
+    [
+        Lent::new(&given.sheet),
+        Lent::words(&given.marks),
+        Lent::new(&given.record),
+        Lent::new(&given.claim),
+        Lent::words(&own.marks),
+        Lent::new(&given.out),
+    ]
+}
+
+/// The archive's answer to a save with own marks, and what was lent as it left it.
+fn archive_own(call: Call, given: &Given, own: &Own) -> (OwnAnswer, [Lent; 6]) {
+    let mut lent = lend_own(given, own);
+    let [sheet, marks, record, claim, owns, out] = lent.each_mut().map(Lent::pointer);
+    let (code, n, own_n) = (given.code, given.n, own.n);
+    let sheet_len = given.sheet.len();
+    let (marks, marks_len) = (marks.cast(), given.marks.len());
+    let record_len = given.record.len();
+    let claim_len = given.claim.len();
+    let (own, own_len) = (owns.cast(), own.marks.len());
+    let out_len = given.out.len();
+    #[rustfmt::skip]
+    let answer = unsafe {
+        match call {
+            Call::Change => luffa_sheet_change_own(
+                code, sheet, sheet_len, n, marks, marks_len, given.place, record, record_len,
+                claim, claim_len, own_n, own, own_len, out, out_len,
+            ),
+            Call::Append => luffa_sheet_append_own(
+                code, sheet, sheet_len, n, marks, marks_len, record, record_len, claim, claim_len,
+                own_n, own, own_len, out, out_len,
+            ),
+            Call::Drop => luffa_sheet_drop_own(
+                code, sheet, sheet_len, n, marks, marks_len, claim, claim_len, own_n, own, own_len,
+                out, out_len,
+            ),
+            Call::Build | Call::Batch => panic!("{call:?} has no form with own marks"),
+        }
+    };
+    (answer, lent)
+}
+
+/// A save with the planner's own marks, which stay as they were.
+pub fn own(call: Call, given: &mut Given, own: &Own) -> Result<OwnAnswer, String> {
+    let before = lend_own(given, own);
+    let (code, n, place, own_n) = (given.code, given.n, given.place, own.n);
+    let (got, lent) = archive_own(call, given, own);
+    let want = own_model::answer(call, given, own);
+    let after = lend_own(given, own);
+    let what = format!(
+        "{call:?} with own marks at code {code}, n = {n}, place {place}, own n = {own_n}: buffer 0 the sheet, \
+         1 the marks, 2 the record, 3 the claim, 4 the own marks, 5 the output"
+    );
+    agree_lent(&what, &before, got, want, lent, &after)
 }
 
 pub fn mend(given: &mut Mending) -> Result<MendAnswer, String> {

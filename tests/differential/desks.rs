@@ -140,18 +140,7 @@ pub fn desks(numbers: &mut Numbers, met: &mut Met) -> Agreed {
     let way = numbers.one_of(&[Way::Not, any]);
     numbers.spoil_marks(way, &mut held);
     let true_marks = held.clone().answer().wrong == 0;
-    let mut opened = Given {
-        code: held.code,
-        sheet: held.sheet,
-        n,
-        marks: held.marks,
-        place: 0,
-        record: vec![],
-        places: vec![],
-        records: vec![],
-        claim: vec![],
-        out: vec![],
-    };
+    let mut opened = Given::from(held);
     opened.claim = sheet_model::held(&opened).0;
     let [a, b] = numbers.apart(n).map(|set| numbers.desk(&opened, set));
     let (one, other) = (in_turn(&a, &b, met)?, in_turn(&b, &a, met)?);

@@ -1,6 +1,7 @@
 //! The archive against a model of its calls over the separately written program, on random messages,
-//! cuts, records, numbers of words, sheets, marks, sets of changes, pairs of desks, plans and batches of them: differential
-//! [SEED [CASES]]. Case k of a seed is case 0 of the seed k higher, so that one that failed is run again alone.
+//! cuts, records, numbers of words, sheets, marks, sets of changes, pairs of desks, planners' own marks, plans and
+//! batches of them: differential [SEED [CASES]]. Case k of a seed is case 0 of the seed k higher, so that one that
+//! failed is run again alone.
 
 mod batch_kinds;
 mod batches;
@@ -21,6 +22,9 @@ mod model;
 mod output_calls;
 mod output_kinds;
 mod outputs;
+mod own_kinds;
+mod own_model;
+mod owns;
 mod plan_kinds;
 mod plan_model;
 mod plans;
@@ -40,6 +44,8 @@ mod luffa;
 mod mend;
 #[path = "../independent/output.rs"]
 mod output;
+#[path = "../independent/own.rs"]
+mod own;
 #[path = "../independent/plan.rs"]
 #[allow(dead_code)]
 mod plan;
@@ -129,6 +135,9 @@ const BATCHES: usize = 1;
 /// The sheets of a case that two desks change.
 const DESKS: usize = 3;
 
+/// The sheets of a case that are saved with a planner's own marks.
+const OWNS: usize = 1;
+
 /// The plans of a case.
 const PLANS: usize = 6;
 
@@ -155,6 +164,9 @@ fn case(seed: u64, met: &mut Met) -> Agreed {
     }
     for _ in 0..DESKS {
         desks::desks(numbers, met)?;
+    }
+    for _ in 0..OWNS {
+        owns::own(numbers, met)?;
     }
     for _ in 0..PLANS {
         plans::plan(numbers, met)?;
@@ -187,6 +199,7 @@ fn main() {
         histories::print(&met),
         batch_kinds::print(&met),
         desks::print(&met),
+        own_kinds::print(&met),
         mend_kinds::print(&met),
         plan_kinds::print(&met),
         brine_kinds::print(&met),

@@ -32,7 +32,7 @@ impl Met {
     pub fn print_answers(&self, call: &str, numbers: &[u64]) {
         let times = |number| self.times(&format!("{call} answered {number}"));
         let line = numbers.iter().map(|n| format!(" {n}: {}", times(n)));
-        println!("  {call:<7}{}", line.collect::<String>());
+        println!("  {call:<10}{}", line.collect::<String>());
     }
 
     /// Prints how often the rarest of these kinds came, and answers those that never did.

@@ -3,6 +3,7 @@
 
 use crate::batch::{self, Lengths};
 use crate::luffa::{Luffa, CODES};
+use crate::mend_model::Mending;
 use crate::model::{bytes_of, digest_bytes, known};
 use crate::sheet::{MARK_WORDS, MOST, RECORD_BYTES};
 
@@ -29,6 +30,24 @@ pub struct Given {
     pub records: Vec<u8>,
     pub claim: Vec<u8>,
     pub out: Vec<u8>,
+}
+
+impl From<Mending> for Given {
+    /// A sheet and its marks, with nothing else yet.
+    fn from(held: Mending) -> Given {
+        Given {
+            code: held.code,
+            sheet: held.sheet,
+            n: held.n,
+            marks: held.marks,
+            place: 0,
+            record: vec![],
+            places: vec![],
+            records: vec![],
+            claim: vec![],
+            out: vec![],
+        }
+    }
 }
 
 /// As C has it.
