@@ -1,15 +1,17 @@
-//! Histories of a sheet: built, then saved by two planners whose digests are at times outdated, with
-//! arguments that are at times refused and marks that are at times false, or spoiled and mended. Every
-//! call goes through calls.rs; while the marks are true, the plain sheet of the separately written program
-//! is held beside it.
+//! Histories of a sheet: built, then saved by two planners whose digests are at times outdated, who at times
+//! bring the marks that they have seen last, with arguments that are at times refused and marks that are at times
+//! false, or spoiled and mended. Every call goes through calls.rs; while the marks are true, the plain sheet of
+//! the separately written program is held beside it.
 
 use crate::mend_model::{MendAnswer, Mending};
 use crate::mends::{self, WAYS};
 use crate::met::{answer_kinds, Met};
 use crate::model::{digest_bytes, state_words};
+use crate::own::Own;
+use crate::own_model;
 use crate::sheet::{Saved, Sheet, MARK_WORDS, MOST, RECORD_BYTES};
 use crate::sheet_model::{held, refusals, Answer, Call, Given};
-use crate::{batch, batches, calls};
+use crate::{batch, batches, calls, owns};
 use crate::{Agreed, Numbers};
 use std::cmp::Ordering::Equal;
 
@@ -120,6 +122,12 @@ fn wanted() -> Vec<String> {
             }
         }
     }
+    for call in owns::CALLS {
+        kinds.push(format!("{call:?} own stale, outdated digest"));
+        for number in [0, 11, 16] {
+            kinds.push(format!("{call:?} own {number} in a history"));
+        }
+    }
     kinds.retain(|kind| !IMPOSSIBLE.iter().any(|end| kind.ends_with(end)));
     kinds
 }
@@ -162,8 +170,16 @@ pub struct History {
     digest: Vec<u8>,
     /// Whether the marks are true because they were mended.
     mended: bool,
-    /// The digest that each planner has seen last.
-    seen: [Vec<u8>; 2],
+    /// What each planner has seen last.
+    seen: [Seen; 2],
+}
+
+/// A digest and marks as a planner has them, and the plain sheet that both are of, if they are of one.
+#[derive(Clone, Default)]
+struct Seen {
+    digest: Vec<u8>,
+    own: Own,
+    plain: Option<Sheet>,
 }
 
 pub fn words_for(n: usize) -> usize {
@@ -207,7 +223,10 @@ fn any_sheet(numbers: &mut Numbers) -> History {
         plain: None,
         digest: vec![],
         mended: false,
-        seen: [numbers.bytes(d), numbers.bytes(d)],
+        seen: [d, d].map(|d| Seen {
+            digest: numbers.bytes(d),
+            ..Seen::default()
+        }),
     }
 }
 
@@ -231,7 +250,7 @@ impl History {
             plain: true_marks.then_some(plain),
             digest: vec![],
             mended: false,
-            seen: [vec![], vec![]],
+            seen: Default::default(),
         }
     }
 
@@ -270,7 +289,7 @@ impl History {
             record: self.record(numbers, place, 1),
             places,
             records,
-            claim: self.seen[planner].clone(),
+            claim: self.seen[planner].digest.clone(),
             out: numbers.bytes(out),
         }
     }
@@ -280,11 +299,52 @@ impl History {
         let before = given.clone();
         let hold = refusals(call, &given);
         let answer = calls::sheet(call, &mut given)?;
-        let number = answer.number;
-        met.note(call, &before, number, &hold, self.plain.is_none());
+        met.note(call, &before, answer.number, &hold, self.plain.is_none());
         if call == Call::Batch {
             batches::judge(&before, &given, &answer, self.plain.is_some(), met)?;
         }
+        if self.mended {
+            match answer.number {
+                0 => met.see(format!("{call:?} done, marks mended")),
+                11 => met.see(format!("{call:?} stale, marks mended")),
+                _ => (),
+            }
+        }
+        self.take_over(call, &before, &given, &hold, answer)?;
+        Ok(answer)
+    }
+
+    /// The same of a save with the marks that the planner has seen last. Its answer is the plain save's: a stale one is
+    /// 11, whatever was said of the marks.
+    fn call_own(
+        &mut self,
+        call: Call,
+        mut given: Given,
+        planner: usize,
+        met: &mut Met,
+    ) -> Result<Answer, String> {
+        let before = given.clone();
+        let Seen { own, plain, .. } = &self.seen[planner];
+        let hold = own_model::refusals(call, &given, own);
+        let sheets = [self.plain.as_ref(), plain.as_ref()];
+        let answer = owns::call(call, &mut given, own, sheets, met)?;
+        if hold.is_empty() && sheets.iter().all(Option::is_some) {
+            met.see(format!("{call:?} own {} in a history", answer.number));
+        }
+        self.take_over(call, &before, &given, &hold, answer.plain())?;
+        Ok(answer.plain())
+    }
+
+    /// Takes over what a call left, and judges it by the plain sheet.
+    fn take_over(
+        &mut self,
+        call: Call,
+        before: &Given,
+        given: &Given,
+        hold: &[u64],
+        answer: Answer,
+    ) -> Agreed {
+        let number = answer.number;
         // A call that was lent less of a buffer leaves the rest of it as it was.
         if number == 0 {
             self.n = given.n;
@@ -295,17 +355,10 @@ impl History {
             self.plain = Some(self.mending().plain());
             self.mended = false;
         }
-        if self.mended {
-            match number {
-                0 => met.see(format!("{call:?} done, marks mended")),
-                11 => met.see(format!("{call:?} stale, marks mended")),
-                _ => (),
-            }
+        match hold {
+            [] | [7] | [14] | [14, 7] => self.plain_agrees(call, before, &answer, &given.out),
+            _ => Ok(()),
         }
-        if matches!(hold[..], [] | [7] | [14] | [14, 7]) {
-            self.plain_agrees(call, &before, &answer, &given.out)?;
-        }
-        Ok(answer)
     }
 
     /// The plain sheet does the same: its answer, its records, its digest and the used words of all
@@ -457,8 +510,37 @@ impl History {
         let given = self.given(numbers, planner);
         let answer = self.call(Call::Build, given, met)?;
         assert_eq!(answer.number, 0);
-        self.seen[planner] = self.digest.clone();
+        self.look(planner);
         Ok(())
+    }
+
+    /// The planner sees the sheet as it is, with marks that are true.
+    fn look(&mut self, planner: usize) {
+        self.seen[planner] = Seen {
+            digest: self.digest.clone(),
+            own: Own {
+                n: self.n,
+                marks: self.marks[..words_for(self.n)].to_vec(),
+            },
+            plain: self.plain.clone(),
+        };
+    }
+
+    /// A planner's save, in a third of those that can with the marks that he has seen last.
+    fn save(
+        &mut self,
+        call: Call,
+        given: Given,
+        planner: usize,
+        numbers: &mut Numbers,
+        met: &mut Met,
+    ) -> Result<(Answer, bool), String> {
+        let own = owns::CALLS.contains(&call) && numbers.between(0, 2) == 0;
+        let answer = match own {
+            true => self.call_own(call, given, planner, met)?,
+            false => self.call(call, given, met)?,
+        };
+        Ok((answer, own))
     }
 
     /// One planner's next doing.
@@ -509,23 +591,24 @@ impl History {
                 let any = numbers.between(0, d - 1);
                 let at = numbers.one_of(&[0, d - 1, d - 1, any]);
                 given.claim[at] ^= 1 << numbers.between(0, 7);
-                let answer = self.call(call, given, met)?;
-                if answer.number == 11 && at == d - 1 {
+                let (answer, own) = self.save(call, given, planner, numbers, met)?;
+                if answer.number == 11 && at == d - 1 && !own {
                     met.see(format!("{call:?} stale, last byte"));
                 }
                 return Ok(());
             }
             _ => (),
         }
-        let answer = self.call(call, given, met)?;
+        let (answer, own) = self.save(call, given, planner, numbers, met)?;
         match answer.number {
             11 if outdated => {
-                met.see(format!("{call:?} stale, outdated digest"));
+                let own = if own { " own" } else { "" };
+                met.see(format!("{call:?}{own} stale, outdated digest"));
                 if numbers.between(0, 1) == 0 {
                     self.open(planner, numbers, met)?;
                 }
             }
-            0 if self.plain.is_some() => self.seen[planner] = self.digest.clone(),
+            0 if self.plain.is_some() => self.look(planner),
             _ => (),
         }
         Ok(())
