@@ -10,7 +10,7 @@
  * The caller's duties, which no call can judge:
  *   - Each pointer is valid for the length that follows it: for reading, and for writing too unless
  *     it points to const. Where the length is 0 the pointer may be null. Lengths are in bytes, those
- *     of marks, places, counts, intake and spare in elements.
+ *     of marks, own, places, counts, intake and spare in elements.
  *   - A buffer lent for writing overlaps no other buffer of the same call. So a claim isn't lent as
  *     the output buffer too.
  *   - Until the call returns, nobody else writes to a lent buffer or reads one lent for writing.
@@ -55,6 +55,9 @@ extern "C" {
 #define LUFFA_STALE 11 /* the claim isn't the digest of the sheet held */
 /* 14 is given by luffa_sheet_batch. */
 #define LUFFA_SET 14   /* too many changes in one save, or their places don't rise */
+/* 15 and 16 are given by the saves that bring the planner's own marks; their 11 names a group. */
+#define LUFFA_OWN 15        /* his own count or marks can't be those of a sheet at this code */
+#define LUFFA_STALE_TAIL 16 /* as 11, but all marks that both sheets have agree */
 /* 12 is given by the calls for longer output. */
 #define LUFFA_WORDS 12 /* no word is asked for, or more than LUFFA_WORDS_MOST */
 /* 13 and 25 are given by luffa_plan_brine. */
@@ -257,6 +260,10 @@ struct luffa_output_answer luffa_hash_finish_output(const struct luffa_hash *has
  *     and marks are the new ones, the answer has the new n, and the digest in out is the claim of the
  *     next save.
  *   - 11 LUFFA_STALE: somebody else has saved since. Nothing was written: open again and look.
+ *   - Where to look: a planner who keeps a copy of the count and marks that he opened with, his own, saves
+ *     by the calls with `_own` in their names. Then 11 names a group of four records to look at. And
+ *     16 LUFFA_STALE_TAIL says that the difference lies after the last mark that both sheets have: in the
+ *     last records, or in how many there are.
  * Two saves that change different records, each with the claim right at its time, leave the same sheet,
  * marks and digest in either order, and take as many rounds.
  * A claim speaks of content: a sheet that was changed and changed back has its old digest again.
@@ -379,6 +386,84 @@ struct luffa_sheet_answer luffa_sheet_append(size_t code, uint8_t *sheet, size_t
 struct luffa_sheet_answer luffa_sheet_drop(size_t code, uint8_t *sheet, size_t sheet_len, size_t n, uint32_t *marks,
                                            size_t marks_len, const uint8_t *claim, size_t claim_len, uint8_t *out,
                                            size_t out_len);
+
+/*
+ * Saves that say where they are stale: luffa_sheet_change, luffa_sheet_append and luffa_sheet_drop with the
+ * planner's own count and marks besides, own_n and own. They are those of the sheet that he opened, at the
+ * same code; as the marks held are lent for writing, his are a copy. Where done, such a save leaves and
+ * answers what the plain one does. Where the claim is stale, it compares the marks of both sheets from mark 1
+ * on, as far as both have them, up to the first pair that differs. If that is mark g + 1, group g is named,
+ * which is the records from 4g to 4g + 3. If both sets of marks are true, the records of this group differ.
+ *
+ * own is never written, and what lies behind its marks isn't read. 15 is judged whether the claim is stale
+ * or not: mark 0 of own must be the starting variables, as luffa_sheet_build writes them. Mark 0 of the sheet
+ * held isn't judged.
+ */
+#define LUFFA_WHERE_SAME 0
+#define LUFFA_WHERE_GROUP 1
+
+/* number, count and rounds are as in luffa_sheet_answer, those of 16 as those of 11. At 11 kind is
+   LUFFA_WHERE_GROUP, group is the one named, and pairs is how many were compared, group + 1. Else kind is
+   LUFFA_WHERE_SAME and group 0; pairs is 0 too, but at 16, where it is how many marks after mark 0 both
+   sheets have. */
+struct luffa_sheet_where {
+    uint64_t number, count, rounds, kind, group, pairs;
+};
+
+/*
+ * luffa_sheet_change with own marks.
+ *   1 LUFFA_WIDTH   code isn't 1 to 4
+ *   2 LUFFA_OUT     out_len is less than the digest's bytes at this code
+ *   5 LUFFA_SHEET   n is over LUFFA_SHEET_MOST, or sheet_len is less than 40n
+ *   6 LUFFA_MARKS   marks_len is less than LUFFA_MARKS_FOR(n)
+ *   7 LUFFA_PLACE   place is n or more
+ *   9 LUFFA_SIZE    record_len isn't LUFFA_SHEET_RECORD_BYTES
+ *  10 LUFFA_CLAIM   claim_len isn't the digest's bytes at this code
+ *  15 LUFFA_OWN     own_n is over LUFFA_SHEET_MOST, own_len is less than LUFFA_MARKS_FOR(own_n), or mark 0
+ *                   of own isn't the starting variables at this code
+ *  11 LUFFA_STALE   the claim isn't the digest of the sheet held, and a group is named
+ *  16 LUFFA_STALE_TAIL  the claim isn't, and all marks that both sheets have agree
+ */
+struct luffa_sheet_where luffa_sheet_change_own(size_t code, uint8_t *sheet, size_t sheet_len, size_t n,
+                                                uint32_t *marks, size_t marks_len, size_t place, const uint8_t *record,
+                                                size_t record_len, const uint8_t *claim, size_t claim_len, size_t own_n,
+                                                const uint32_t *own, size_t own_len, uint8_t *out, size_t out_len);
+
+/*
+ * luffa_sheet_append with own marks.
+ *   1 LUFFA_WIDTH   code isn't 1 to 4
+ *   2 LUFFA_OUT     out_len is less than the digest's bytes at this code
+ *   5 LUFFA_SHEET   n is over LUFFA_SHEET_MOST, or sheet_len is less than 40n
+ *   6 LUFFA_MARKS   marks_len is less than LUFFA_MARKS_FOR(n)
+ *   8 LUFFA_FULL    n is LUFFA_SHEET_MOST, or sheet_len or marks_len is too small for n + 1 records
+ *   9 LUFFA_SIZE    record_len isn't LUFFA_SHEET_RECORD_BYTES
+ *  10 LUFFA_CLAIM   claim_len isn't the digest's bytes at this code
+ *  15 LUFFA_OWN     own_n is over LUFFA_SHEET_MOST, own_len is less than LUFFA_MARKS_FOR(own_n), or mark 0
+ *                   of own isn't the starting variables at this code
+ *  11 LUFFA_STALE   the claim isn't the digest of the sheet held, and a group is named
+ *  16 LUFFA_STALE_TAIL  the claim isn't, and all marks that both sheets have agree
+ */
+struct luffa_sheet_where luffa_sheet_append_own(size_t code, uint8_t *sheet, size_t sheet_len, size_t n,
+                                                uint32_t *marks, size_t marks_len, const uint8_t *record,
+                                                size_t record_len, const uint8_t *claim, size_t claim_len, size_t own_n,
+                                                const uint32_t *own, size_t own_len, uint8_t *out, size_t out_len);
+
+/*
+ * luffa_sheet_drop with own marks.
+ *   1 LUFFA_WIDTH   code isn't 1 to 4
+ *   2 LUFFA_OUT     out_len is less than the digest's bytes at this code
+ *   5 LUFFA_SHEET   n is over LUFFA_SHEET_MOST, or sheet_len is less than 40n
+ *   6 LUFFA_MARKS   marks_len is less than LUFFA_MARKS_FOR(n)
+ *   7 LUFFA_PLACE   n is 0
+ *  10 LUFFA_CLAIM   claim_len isn't the digest's bytes at this code
+ *  15 LUFFA_OWN     own_n is over LUFFA_SHEET_MOST, own_len is less than LUFFA_MARKS_FOR(own_n), or mark 0
+ *                   of own isn't the starting variables at this code
+ *  11 LUFFA_STALE   the claim isn't the digest of the sheet held, and a group is named
+ *  16 LUFFA_STALE_TAIL  the claim isn't, and all marks that both sheets have agree
+ */
+struct luffa_sheet_where luffa_sheet_drop_own(size_t code, uint8_t *sheet, size_t sheet_len, size_t n, uint32_t *marks,
+                                              size_t marks_len, const uint8_t *claim, size_t claim_len, size_t own_n,
+                                              const uint32_t *own, size_t own_len, uint8_t *out, size_t out_len);
 
 /*
  * What the records of a sheet mean to the balancer. The sheet calls above never ask: they save any 40

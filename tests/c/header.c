@@ -17,11 +17,16 @@ HOLDS(LUFFA_SHEET == 5 && LUFFA_MARKS == 6 && LUFFA_PLACE == 7 && LUFFA_FULL == 
 HOLDS(LUFFA_CLAIM == 10 && LUFFA_STALE == 11 && LUFFA_BATCH == 13 && LUFFA_LIST == 25 && LUFFA_BATCH_MOST == 64);
 HOLDS(LUFFA_ODD == 17 && LUFFA_WORDS == 12 && LUFFA_WORDS_MOST == 64);
 HOLDS(LUFFA_SET == 14 && LUFFA_CHANGES_MOST == 64);
+HOLDS(LUFFA_OWN == 15 && LUFFA_STALE_TAIL == 16 && LUFFA_WHERE_SAME == 0 && LUFFA_WHERE_GROUP == 1);
 HOLDS(LUFFA_SHEET_MOST == 1024 && LUFFA_SHEET_RECORD_BYTES == 40 && LUFFA_MARK_WORDS == 40);
 HOLDS(LUFFA_MARKS_FOR(0) == 40 && LUFFA_MARKS_FOR(3) == 40 && LUFFA_MARKS_FOR(4) == 80);
 HOLDS(LUFFA_MARKS_FOR(LUFFA_SHEET_MOST) == 10280 && LUFFA_MARKS_FOR(1 + 2) == 40);
 HOLDS(sizeof(struct luffa_sheet_answer) == 24 && offsetof(struct luffa_sheet_answer, number) == 0 &&
       offsetof(struct luffa_sheet_answer, count) == 8 && offsetof(struct luffa_sheet_answer, rounds) == 16);
+HOLDS(sizeof(struct luffa_sheet_where) == 48 && offsetof(struct luffa_sheet_where, number) == 0 &&
+      offsetof(struct luffa_sheet_where, count) == 8 && offsetof(struct luffa_sheet_where, rounds) == 16 &&
+      offsetof(struct luffa_sheet_where, kind) == 24 && offsetof(struct luffa_sheet_where, group) == 32 &&
+      offsetof(struct luffa_sheet_where, pairs) == 40);
 HOLDS(sizeof(struct luffa_mend_answer) == 32 && offsetof(struct luffa_mend_answer, number) == 0 &&
       offsetof(struct luffa_mend_answer, wrong) == 8 && offsetof(struct luffa_mend_answer, first) == 16 &&
       offsetof(struct luffa_mend_answer, rounds) == 24);
@@ -75,6 +80,15 @@ static answer (*const drop)(size_t, uint8_t *, size_t, size_t, uint32_t *, size_
                             size_t) = luffa_sheet_drop;
 static answer (*const batch)(size_t, uint8_t *, size_t, size_t, uint32_t *, size_t, const size_t *, size_t,
                              const uint8_t *, size_t, const uint8_t *, size_t, uint8_t *, size_t) = luffa_sheet_batch;
+typedef struct luffa_sheet_where where;
+static where (*const change_own)(size_t, uint8_t *, size_t, size_t, uint32_t *, size_t, size_t, const uint8_t *, size_t,
+                                 const uint8_t *, size_t, size_t, const uint32_t *, size_t, uint8_t *,
+                                 size_t) = luffa_sheet_change_own;
+static where (*const append_own)(size_t, uint8_t *, size_t, size_t, uint32_t *, size_t, const uint8_t *, size_t,
+                                 const uint8_t *, size_t, size_t, const uint32_t *, size_t, uint8_t *,
+                                 size_t) = luffa_sheet_append_own;
+static where (*const drop_own)(size_t, uint8_t *, size_t, size_t, uint32_t *, size_t, const uint8_t *, size_t, size_t,
+                               const uint32_t *, size_t, uint8_t *, size_t) = luffa_sheet_drop_own;
 static struct luffa_mend_answer (*const mend)(size_t, const uint8_t *, size_t, size_t, uint32_t *,
                                               size_t) = luffa_sheet_mend;
 static struct luffa_content_answer (*const plan_check)(const uint8_t *, size_t, size_t) = luffa_plan_check;
@@ -85,7 +99,7 @@ int main(void)
 {
     uint8_t record[LUFFA_RECORD_BYTES], out[LUFFA_512_BYTES], claim[LUFFA_512_BYTES];
     uint8_t sheet[LUFFA_SHEET_RECORD_BYTES] = {0}, line[LUFFA_SHEET_RECORD_BYTES] = {1};
-    uint32_t marks[LUFFA_MARKS_FOR(1)];
+    uint32_t marks[LUFFA_MARKS_FOR(1)], own[LUFFA_MARKS_FOR(0)];
     struct luffa_hash hash;
     size_t counts[] = {0, 1};
     uint64_t intake[1];
@@ -113,6 +127,13 @@ int main(void)
                   claim, sizeof claim).number != LUFFA_PLACE ||
            drop(LUFFA_512, sheet, sizeof sheet, 1, marks, LUFFA_MARKS_FOR(1), out, sizeof out, claim, sizeof claim)
                    .count != 0 ||
+           build(LUFFA_512, NULL, 0, 0, own, LUFFA_MARKS_FOR(0), out, sizeof out).rounds != 3 ||
+           append_own(LUFFA_512, sheet, sizeof sheet, 0, marks, LUFFA_MARKS_FOR(0), line, sizeof line, claim,
+                      sizeof claim, 0, own, LUFFA_MARKS_FOR(0), out, sizeof out).count != 1 ||
+           change_own(LUFFA_512, sheet, sizeof sheet, 1, marks, LUFFA_MARKS_FOR(1), 0, line, sizeof line, claim,
+                      sizeof claim, 0, own, LUFFA_MARKS_FOR(0), out, sizeof out).number != LUFFA_STALE_TAIL ||
+           drop_own(LUFFA_512, sheet, sizeof sheet, 1, marks, LUFFA_MARKS_FOR(1), out, sizeof out, 0, own,
+                    LUFFA_MARKS_FOR(0), claim, sizeof claim).count != 0 ||
            mend(LUFFA_384, NULL, 0, 0, marks, LUFFA_MARKS_FOR(0)).wrong != 1 ||
            plan_check(sheet, sizeof sheet, 1).rule != LUFFA_RULE_NUMBER ||
            plan_brine(sheet, sizeof sheet, counts, 2, intake, 1, spare, 1).faulted != 1;
