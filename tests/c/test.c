@@ -79,25 +79,12 @@ static void make_room(struct lent *l, size_t n)
     fill(l->room, size);
 }
 
-/* Lends a copy of n bytes, or any n bytes where there are none to copy. As it falls, they stand
-   against the page before the room, against the one after it, so that an access outside them is seen
-   on either side, or at any address between that is a multiple of `align`. A buffer of no bytes may
-   be a null pointer. */
-static uint8_t *lend_aligned(struct lent *l, const uint8_t *bytes, size_t n, size_t align)
+/* Lends a copy of n bytes at this place of the room, or any n bytes where there are none to copy. */
+static uint8_t *lend_at(struct lent *l, uint8_t *at, const uint8_t *bytes, size_t n)
 {
-    uint8_t place = any_byte(), *from;
+    uint8_t *from;
 
-    make_room(l, n);
-    switch (place % 3) {
-    case 0:
-        l->bytes = l->room;
-        break;
-    case 1:
-        l->bytes = l->room + l->size - n;
-        break;
-    default:
-        l->bytes = l->room + EDGE + place % EDGE / align * align;
-    }
+    l->bytes = at;
     l->n = n;
     if (bytes == NULL)
         fill(l->bytes, n);
@@ -105,10 +92,43 @@ static uint8_t *lend_aligned(struct lent *l, const uint8_t *bytes, size_t n, siz
         memcpy(l->bytes, bytes, n);
     size_t all = watched(l, &from);
     memcpy(l->was, from, all);
-    return n == 0 && place % 3 == 0 ? NULL : l->bytes;
+    return at;
+}
+
+/* As it falls, they stand against the page before the room, against the one after it, so that an access
+   outside them is seen on either side, or at any address between that is a multiple of `align`. A buffer
+   of no bytes may be a null pointer. */
+static uint8_t *lend_aligned(struct lent *l, const uint8_t *bytes, size_t n, size_t align)
+{
+    uint8_t place = any_byte(), *at;
+
+    make_room(l, n);
+    switch (place % 3) {
+    case 0:
+        at = l->room;
+        break;
+    case 1:
+        at = l->room + l->size - n;
+        break;
+    default:
+        at = l->room + EDGE + place % EDGE / align * align;
+    }
+    lend_at(l, at, bytes, n);
+    return n == 0 && place % 3 == 0 ? NULL : at;
 }
 
 static uint8_t *lend(struct lent *l, const uint8_t *bytes, size_t n) { return lend_aligned(l, bytes, n, 1); }
+
+/* Words, the last of which may be hidden: these stand on the page after the room. */
+static uint32_t *lend_words(struct lent *l, const uint32_t *words, size_t n, size_t hidden)
+{
+    size_t bytes = 4 * (n - hidden);
+
+    if (hidden == 0)
+        return (void *)lend_aligned(l, (const uint8_t *)words, bytes, 4);
+    make_room(l, bytes);
+    return (void *)lend_at(l, l->room + l->size - bytes, (const uint8_t *)words, bytes);
+}
 
 /* Says what may be done with the pages of n bytes. */
 static void protect(void *from, size_t n, int protection)
@@ -533,7 +553,13 @@ void by_hand(size_t code, const uint8_t *message, size_t bits, size_t words, uin
 
 /* ---- Sheets. */
 
-const char *const call_names[5] = {"build", "change", "append", "drop", "batch"};
+const char *const call_names[8] = {"build",      "change",     "append",  "drop", "batch",
+                                   "change_own", "append_own", "drop_own"};
+
+int brings_own(enum call call) { return call >= CHANGE_OWN; }
+
+enum call plain(enum call call) { return brings_own(call) ? (enum call)(CHANGE + (call - CHANGE_OWN)) : call; }
+
 const size_t final_rounds[5] = {0, 1, 1, 2, 2};
 
 const size_t too_many[15] = {
@@ -574,6 +600,14 @@ void built_sheet(struct sheet *s, size_t code, size_t n, size_t more)
 {
     any_sheet(s, code, n, more);
     sheet_call(LUFFA_DONE, BUILD, s);
+    open_own(s);
+}
+
+void open_own(struct sheet *s)
+{
+    s->own_n = s->n;
+    s->own_len = LUFFA_MARKS_FOR(s->n);
+    memcpy(s->own, s->marks, 4 * s->own_len);
 }
 
 /* Writes the true marks `from` to n / 4 of the sheet: the states of a record that is fed all of it. */
@@ -611,13 +645,13 @@ void from_mark(const struct sheet *s, size_t m, size_t n, uint8_t *digest)
 static int only_checks(enum call call, const struct sheet *s) { return call == BATCH && s->places_len == 0; }
 
 /* What the call must leave of the sheet where it is done, and the answer. */
-static struct luffa_sheet_answer expected(enum call call, struct sheet *s)
+static struct luffa_sheet_where expected(enum call call, struct sheet *s)
 {
     size_t n = s->n, q = n / 4, from = 0, written = 0;
     uint64_t check = call == BUILD ? 0 : rounds_from(s, q);
 
-    switch (call) {
-    case BUILD:
+    switch (plain(call)) {
+    default:
         break;
     case CHANGE:
         memcpy(s->sheet + RECORD * s->place, s->record, RECORD);
@@ -647,11 +681,29 @@ static struct luffa_sheet_answer expected(enum call call, struct sheet *s)
     }
     true_marks(s, written, s->marks);
     luffa_digest(s->code, s->sheet, RECORD * s->n, s->out, digest_bytes[s->code]);
-    return (struct luffa_sheet_answer){LUFFA_DONE, s->n, check + (only_checks(call, s) ? 0 : rounds_from(s, from))};
+    return (struct luffa_sheet_where){
+        .count = s->n, .rounds = check + (only_checks(call, s) ? 0 : rounds_from(s, from))};
+}
+
+/* What a stale call must answer: with own marks, where they and those of the sheet first differ, in the words that the
+   code uses. */
+static struct luffa_sheet_where stale(uint64_t want, enum call call, const struct sheet *s)
+{
+    struct luffa_sheet_where wanted = {.number = want, .count = s->n, .rounds = s->n % 4 + 1 + final_rounds[s->code]};
+    size_t shared = brings_own(call) ? (s->n < s->own_n ? s->n : s->own_n) / 4 : 0;
+
+    while (wanted.kind == LUFFA_WHERE_SAME && wanted.pairs < shared) {
+        size_t m = ++wanted.pairs;
+        if (memcmp(s->marks + MARK * m, s->own + MARK * m, state_bytes[s->code]) != 0) {
+            wanted.kind = LUFFA_WHERE_GROUP;
+            wanted.group = m - 1;
+        }
+    }
+    return wanted;
 }
 
 /* What the sheet calls are lent. */
-static struct lent in_sheet, in_marks, in_record, in_places, in_records, in_claim, in_out;
+static struct lent in_sheet, in_marks, in_record, in_places, in_records, in_claim, in_own, in_out;
 
 static void protect_sheet(int protection)
 {
@@ -659,52 +711,78 @@ static void protect_sheet(int protection)
     protect(in_marks.room, in_marks.size, protection);
 }
 
+/* The answer of a call without own marks. */
+static struct luffa_sheet_where nowhere(struct luffa_sheet_answer got)
+{
+    return (struct luffa_sheet_where){.number = got.number, .count = got.count, .rounds = got.rounds};
+}
+
 /* Where nothing is to be written, sheet and marks can't be: always if the call is done, and in one of 32 refusals, as
-   valgrind takes its time over pages. */
-static struct luffa_sheet_answer lent_call(uint64_t want, enum call call, const struct sheet *s)
+   valgrind takes its time over pages. Own marks can't be in one of 32 calls that bring them. */
+static struct luffa_sheet_where lent_call(uint64_t want, enum call call, const struct sheet *s)
 {
     int sealed = want == LUFFA_DONE ? only_checks(call, s) : any_byte() % 32 == 0;
+    int own_sealed = brings_own(call) && any_byte() % 32 == 0;
     uint8_t *sheet = lend(&in_sheet, s->sheet, s->sheet_len), *record = lend(&in_record, s->record, s->record_len);
-    uint32_t *marks = (void *)lend_aligned(&in_marks, (const uint8_t *)s->marks, 4 * s->marks_len, 4);
+    uint32_t *marks = lend_words(&in_marks, s->marks, s->marks_len, s->marks_hidden);
     size_t *places = (void *)lend_aligned(&in_places, (const uint8_t *)s->places, 8 * s->places_len, 8);
     uint8_t *records = lend(&in_records, s->records, s->records_len);
+    uint32_t *own = brings_own(call) ? lend_words(&in_own, s->own, s->own_len, s->own_hidden)
+                                     : lend_words(&in_own, s->own, 0, 0);
     uint8_t *claim = lend(&in_claim, s->claim, s->claim_len), *out = lend(&in_out, NULL, s->out_len);
-    struct luffa_sheet_answer got = {0, 0, 0};
+    struct luffa_sheet_where got = {0};
 
     if (sealed)
         protect_sheet(PROT_READ);
+    if (own_sealed)
+        protect(in_own.room, in_own.size, PROT_READ);
     switch (call) {
     case BUILD:
-        got = luffa_sheet_build(s->code, sheet, s->sheet_len, s->n, marks, s->marks_len, out, s->out_len);
+        got = nowhere(luffa_sheet_build(s->code, sheet, s->sheet_len, s->n, marks, s->marks_len, out, s->out_len));
         break;
     case CHANGE:
-        got = luffa_sheet_change(s->code, sheet, s->sheet_len, s->n, marks, s->marks_len, s->place, record,
-                                 s->record_len, claim, s->claim_len, out, s->out_len);
+        got = nowhere(luffa_sheet_change(s->code, sheet, s->sheet_len, s->n, marks, s->marks_len, s->place, record,
+                                         s->record_len, claim, s->claim_len, out, s->out_len));
         break;
     case APPEND:
-        got = luffa_sheet_append(s->code, sheet, s->sheet_len, s->n, marks, s->marks_len, record, s->record_len, claim,
-                                 s->claim_len, out, s->out_len);
+        got = nowhere(luffa_sheet_append(s->code, sheet, s->sheet_len, s->n, marks, s->marks_len, record, s->record_len,
+                                         claim, s->claim_len, out, s->out_len));
         break;
     case DROP:
-        got = luffa_sheet_drop(s->code, sheet, s->sheet_len, s->n, marks, s->marks_len, claim, s->claim_len, out,
-                               s->out_len);
+        got = nowhere(luffa_sheet_drop(s->code, sheet, s->sheet_len, s->n, marks, s->marks_len, claim, s->claim_len,
+                                       out, s->out_len));
         break;
     case BATCH:
-        got = luffa_sheet_batch(s->code, sheet, s->sheet_len, s->n, marks, s->marks_len, places, s->places_len, records,
-                                s->records_len, claim, s->claim_len, out, s->out_len);
+        got = nowhere(luffa_sheet_batch(s->code, sheet, s->sheet_len, s->n, marks, s->marks_len, places, s->places_len,
+                                        records, s->records_len, claim, s->claim_len, out, s->out_len));
+        break;
+    case CHANGE_OWN:
+        got = luffa_sheet_change_own(s->code, sheet, s->sheet_len, s->n, marks, s->marks_len, s->place, record,
+                                     s->record_len, claim, s->claim_len, s->own_n, own, s->own_len, out, s->out_len);
+        break;
+    case APPEND_OWN:
+        got = luffa_sheet_append_own(s->code, sheet, s->sheet_len, s->n, marks, s->marks_len, record, s->record_len,
+                                     claim, s->claim_len, s->own_n, own, s->own_len, out, s->out_len);
+        break;
+    case DROP_OWN:
+        got = luffa_sheet_drop_own(s->code, sheet, s->sheet_len, s->n, marks, s->marks_len, claim, s->claim_len,
+                                   s->own_n, own, s->own_len, out, s->out_len);
         break;
     }
     if (sealed)
         protect_sheet(PROT_READ | PROT_WRITE);
+    if (own_sealed)
+        protect(in_own.room, in_own.size, PROT_READ | PROT_WRITE);
     return got;
 }
 
 /* Judges the answer of a call on n records, and that `s` is what it left, where done with the digest in out. */
-static void judge(struct luffa_sheet_answer got, struct luffa_sheet_answer wanted, enum call call, size_t n,
+static void judge(struct luffa_sheet_where got, struct luffa_sheet_where wanted, enum call call, size_t n,
                   const struct sheet *s)
 {
     size_t written = wanted.number == LUFFA_DONE ? digest_bytes[s->code] : 0;
-    int read_only = kept(&in_record, 0) && kept(&in_places, 0) && kept(&in_records, 0) && kept(&in_claim, 0);
+    int read_only = kept(&in_record, 0) && kept(&in_places, 0) && kept(&in_records, 0) && kept(&in_claim, 0) &&
+                    kept(&in_own, 0);
     const char *wrong = memcmp(&got, &wanted, sizeof got) != 0       ? "wrong answer"
                         : !left(&in_sheet, s->sheet)                 ? "wrong sheet"
                         : !left(&in_marks, s->marks)                 ? "wrong marks"
@@ -713,20 +791,22 @@ static void judge(struct luffa_sheet_answer got, struct luffa_sheet_answer wante
                                                                      : NULL;
 
     check(wrong == NULL,
-          "%s of %zu records at code %zu, place %zu, or %zu places: %s, answered %llu, %llu, %llu, wanted %llu, %llu, "
-          "%llu",
-          call_names[call], n, s->code, s->place, s->places_len, wrong, (unsigned long long)got.number,
-          (unsigned long long)got.count, (unsigned long long)got.rounds, (unsigned long long)wanted.number,
-          (unsigned long long)wanted.count, (unsigned long long)wanted.rounds);
+          "%s of %zu records at code %zu, place %zu, or %zu places, own %zu: %s, answered %llu, %llu, %llu, kind %llu, "
+          "group %llu, %llu pairs, wanted %llu, %llu, %llu, kind %llu, group %llu, %llu pairs",
+          call_names[call], n, s->code, s->place, s->places_len, s->own_n, wrong, (unsigned long long)got.number,
+          (unsigned long long)got.count, (unsigned long long)got.rounds, (unsigned long long)got.kind,
+          (unsigned long long)got.group, (unsigned long long)got.pairs, (unsigned long long)wanted.number,
+          (unsigned long long)wanted.count, (unsigned long long)wanted.rounds, (unsigned long long)wanted.kind,
+          (unsigned long long)wanted.group, (unsigned long long)wanted.pairs);
 }
 
-struct luffa_sheet_answer sheet_call(uint64_t want, enum call call, struct sheet *s)
+struct luffa_sheet_where where_call(uint64_t want, enum call call, struct sheet *s)
 {
-    struct luffa_sheet_answer got = lent_call(want, call, s), wanted = {want, s->n, 0};
+    struct luffa_sheet_where got = lent_call(want, call, s), wanted = {.number = want, .count = s->n};
     size_t n = s->n;
 
-    if (want == LUFFA_STALE)
-        wanted.rounds = n % 4 + 1 + final_rounds[s->code];
+    if (want == LUFFA_STALE || want == LUFFA_STALE_TAIL)
+        wanted = stale(want, call, s);
     if (want == LUFFA_DONE)
         wanted = expected(call, s);
     judge(got, wanted, call, n, s);
@@ -735,9 +815,30 @@ struct luffa_sheet_answer sheet_call(uint64_t want, enum call call, struct sheet
     return got;
 }
 
+struct luffa_sheet_answer sheet_call(uint64_t want, enum call call, struct sheet *s)
+{
+    struct luffa_sheet_where got = where_call(want, call, s);
+
+    return (struct luffa_sheet_answer){got.number, got.count, got.rounds};
+}
+
 void found_call(uint64_t rounds, enum call call, const struct sheet *s, const struct sheet *after)
 {
-    judge(lent_call(LUFFA_DONE, call, s), (struct luffa_sheet_answer){LUFFA_DONE, after->n, rounds}, call, s->n, after);
+    judge(lent_call(LUFFA_DONE, call, s), (struct luffa_sheet_where){.count = after->n, .rounds = rounds}, call, s->n,
+          after);
+}
+
+void as_plain_call(enum call call, const struct sheet *s)
+{
+    static struct sheet after;
+    struct luffa_sheet_where got = lent_call(LUFFA_DONE, plain(call), s);
+
+    after = *s;
+    after.n = got.count;
+    memcpy(after.sheet, in_sheet.bytes, in_sheet.n);
+    memcpy(after.marks, in_marks.bytes, in_marks.n);
+    memcpy(after.out, in_out.bytes, digest_bytes[s->code]);
+    found_call(got.rounds, call, s, &after);
 }
 
 /* What mending must leave of the marks, and the answer. Where they are lent, the pages of the wrong ones are made

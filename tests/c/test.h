@@ -101,8 +101,12 @@ void by_hand(size_t code, const uint8_t *message, size_t bits, size_t words, uin
 
 /* ---- Sheets. */
 
-enum call { BUILD, CHANGE, APPEND, DROP, BATCH };
-extern const char *const call_names[5];
+enum call { BUILD, CHANGE, APPEND, DROP, BATCH, CHANGE_OWN, APPEND_OWN, DROP_OWN };
+extern const char *const call_names[8];
+
+/* Whether a call brings own marks, and the same call without. */
+int brings_own(enum call call);
+enum call plain(enum call call);
 
 enum { RECORD = LUFFA_SHEET_RECORD_BYTES, MARK = LUFFA_MARK_WORDS, MOST = LUFFA_SHEET_MOST, ROOM_FOR = MOST + 6 };
 
@@ -113,27 +117,33 @@ enum { CHANGES = LUFFA_CHANGES_MOST, PLACES = 264 };
    such as need few bytes or words once the product is cut to 64. */
 extern const size_t too_many[15];
 
-/* A sheet, and all that a call on it is given: a change its place and record, a batch its places and records. */
+/* A sheet, and all that a call on it is given: a change its place and record, a batch its places and records, and with
+   `_own` the planner's own count and marks. Of marks and of own so many words at the end are hidden: they are lent,
+   but nobody may touch them. */
 struct sheet {
-    size_t code, n, place;
-    size_t sheet_len, marks_len, record_len, claim_len, out_len;
+    size_t code, n, place, own_n;
+    size_t sheet_len, marks_len, record_len, claim_len, out_len, own_len;
+    size_t marks_hidden, own_hidden;
     size_t places_len, records_len, places[PLACES];
     uint8_t sheet[RECORD * ROOM_FOR];
-    uint32_t marks[LUFFA_MARKS_FOR(ROOM_FOR)];
+    uint32_t marks[LUFFA_MARKS_FOR(ROOM_FOR)], own[LUFFA_MARKS_FOR(ROOM_FOR)];
     uint8_t record[100], claim[100], out[200], records[RECORD * PLACES];
 };
 
 /* n records of any bytes, with room for `more`, and no byte or word beyond that is lent. The marks
    are any words; the record is any, and the output buffer has a few bytes too many. The batch is of
-   three changes, or as many as there are records. */
+   three changes, or as many as there are records. No own marks are lent. */
 void any_sheet(struct sheet *s, size_t code, size_t n, size_t more);
 
 /* A batch of so many changes, the first at this place and each so many places after the one before, with
    records just long enough. */
 void batch_of(struct sheet *s, size_t count, size_t first, size_t step);
 
-/* The same, built, and the digest claimed. */
+/* The same, built, the digest claimed, and opened. */
 void built_sheet(struct sheet *s, size_t code, size_t n, size_t more);
+
+/* The planner opens the sheet: its count and marks are now his own, in a buffer just long enough. */
+void open_own(struct sheet *s);
 
 /* F, the rounds of the final stage; and the rounds from mark m to the end, blocks that are left and F. */
 extern const size_t final_rounds[5];
@@ -144,13 +154,21 @@ void from_mark(const struct sheet *s, size_t m, size_t n, uint8_t *digest);
 
 /* Makes a call on a sheet whose marks are true. Where done, everything is judged by luffa_digest and
    luffa_feed over the whole sheet, and by document 01's formulas for rounds; refused, nothing may
-   have changed. The empty set is saved where neither sheet nor marks can be written. Then `s` is what
-   the call left, with the new count, and the claim is the new digest. */
+   have changed. The empty set is saved where neither sheet nor marks can be written. Where a stale save
+   differs from the planner's own marks is judged over all that both sheets have. Then `s` is what the call
+   left, with the new count, and the claim is the new digest. */
 struct luffa_sheet_answer sheet_call(uint64_t want, enum call call, struct sheet *s);
+
+/* The same with the whole answer, in which a call without own marks has 0 for what it doesn't say. */
+struct luffa_sheet_where where_call(uint64_t want, enum call call, struct sheet *s);
 
 /* Makes a call on a sheet whatever its marks are: it must be done in so many rounds, and leave the sheet,
    the marks and in out the digest that `after` has. */
 void found_call(uint64_t rounds, enum call call, const struct sheet *s, const struct sheet *after);
+
+/* Makes a call with own marks on a sheet whatever its marks are, and the same call without: both must be done, and
+   answer and leave the same. */
+void as_plain_call(enum call call, const struct sheet *s);
 
 /* Has the marks of a sheet mended, whatever they are. Where done, the answer and the marks are judged by
    luffa_feed over the whole sheet, and neither the sheet nor a page of the marks that has no wrong one in
