@@ -11,13 +11,14 @@ static void put_right(void)
 {
     memcpy(&s, &built, offsetof(struct sheet, sheet));
     memcpy(s.claim, built.claim, sizeof s.claim);
+    memcpy(s.own, built.own, 4 * built.own_len);
 }
 
 static const size_t unknown[] = {0, 5, 256 + 2, ((size_t)1 << 32) + 4, (size_t)1 << 63, SIZE_MAX};
 
-/* All of them in the order in which they are judged; only a batch has 14. */
-static const uint64_t order[] = {LUFFA_WIDTH, LUFFA_OUT,  LUFFA_SHEET, LUFFA_MARKS, LUFFA_SET,
-                                 LUFFA_PLACE, LUFFA_FULL, LUFFA_SIZE,  LUFFA_CLAIM, LUFFA_STALE};
+/* All of them in the order in which they are judged; only a batch has 14, and only calls with own marks 15 and 16. */
+static const uint64_t order[] = {LUFFA_WIDTH, LUFFA_OUT,  LUFFA_SHEET, LUFFA_MARKS, LUFFA_SET,   LUFFA_PLACE,
+                                 LUFFA_FULL,  LUFFA_SIZE, LUFFA_CLAIM, LUFFA_OWN,   LUFFA_STALE, LUFFA_STALE_TAIL};
 
 /* Places after the last record, from n on; among them such as are before it once they are cut. */
 static const size_t beyond[] = {
@@ -48,8 +49,11 @@ static size_t ways(enum call call, uint64_t number)
     case LUFFA_WIDTH:
         return COUNT_OF(unknown);
     case LUFFA_OUT:
-    case LUFFA_STALE:
+    case LUFFA_STALE_TAIL:
         return digest_bytes[built.code];
+    case LUFFA_STALE:
+        /* With own marks, both sheets need one after mark 0. */
+        return brings_own(call) && built.n < 4 ? 0 : digest_bytes[built.code];
     case LUFFA_SHEET:
         return COUNT_OF(too_many) + (built.n > 0 ? 3 : 1);
     case LUFFA_MARKS:
@@ -57,11 +61,13 @@ static size_t ways(enum call call, uint64_t number)
     case LUFFA_SET:
         return COUNT_OF(crowds) + COUNT_OF(no_rise) + 2;
     case LUFFA_PLACE:
-        return call == DROP ? 0 : COUNT_OF(beyond);
+        return plain(call) == DROP ? 0 : COUNT_OF(beyond);
     case LUFFA_FULL:
         return built.n % 4 == 3 ? 4 : 2;
     case LUFFA_SIZE:
         return COUNT_OF(no_record);
+    case LUFFA_OWN:
+        return COUNT_OF(too_many) + 4 + state_bytes[built.code] / 4;
     default:
         return COUNT_OF(no_claim);
     }
@@ -91,7 +97,35 @@ static void spoil_set(size_t way)
         add_place(way % 2 ? s.places[s.places_len - 1] : 0);
 }
 
-static void spoil(uint64_t number, size_t way)
+/* A count of own records that no sheet has, too few words for the marks, or another word in mark 0. */
+static void spoil_own(size_t way)
+{
+    if (way < COUNT_OF(too_many)) {
+        s.own_n = too_many[way];
+        return;
+    }
+    way -= COUNT_OF(too_many);
+    switch (way) {
+    case 0:
+        /* Too many, though there is room for them. */
+        s.own_n = MOST + 1;
+        s.own_len = COUNT_OF(s.own);
+        break;
+    case 1:
+        s.own_len--;
+        break;
+    case 2:
+        s.own_len -= MARK;
+        break;
+    case 3:
+        s.own_len = 0;
+        break;
+    default:
+        s.own[way - 4] ^= 1u << way % 32;
+    }
+}
+
+static void spoil(enum call call, uint64_t number, size_t way)
 {
     size_t n = built.n, d = digest_bytes[built.code];
 
@@ -140,13 +174,21 @@ static void spoil(uint64_t number, size_t way)
     case LUFFA_CLAIM:
         s.claim_len = no_claim[way] != d ? no_claim[way] : d - 1;
         break;
-    default:
+    case LUFFA_OWN:
+        spoil_own(way);
+        break;
+    case LUFFA_STALE:
         s.claim[way] ^= 0x10;
+        if (brings_own(call))
+            s.own[MARK * (way % (n / 4) + 1) + way % (state_bytes[built.code] / 4)] ^= 1u << way % 32;
+        break;
+    default:
+        s.claim[way] ^= 0x01;
     }
 }
 
 /* Sets of refusals, as bits: those that a call has. */
-static const unsigned has[5] = {
+static const unsigned plain_has[5] = {
     [BUILD] = 1 << 1 | 1 << 2 | 1 << 5 | 1 << 6,
     [CHANGE] = 1 << 1 | 1 << 2 | 1 << 5 | 1 << 6 | 1 << 7 | 1 << 9 | 1 << 10 | 1 << 11,
     [APPEND] = 1 << 1 | 1 << 2 | 1 << 5 | 1 << 6 | 1 << 8 | 1 << 9 | 1 << 10 | 1 << 11,
@@ -154,13 +196,15 @@ static const unsigned has[5] = {
     [BATCH] = 1 << 1 | 1 << 2 | 1 << 5 | 1 << 6 | 1 << 14 | 1 << 7 | 1 << 9 | 1 << 10 | 1 << 11,
 };
 
+static unsigned has(enum call call) { return plain_has[plain(call)] | (brings_own(call) ? 1 << 15 | 1 << 16 : 0); }
+
 /* What this n is refused whatever else is given: a change or a drop of nothing, an append to a full
    sheet. */
 static unsigned always(enum call call)
 {
-    if ((call == CHANGE || call == DROP) && built.n == 0)
+    if ((plain(call) == CHANGE || plain(call) == DROP) && built.n == 0)
         return 1 << LUFFA_PLACE;
-    return call == APPEND && built.n == MOST ? 1 << LUFFA_FULL : 0;
+    return plain(call) == APPEND && built.n == MOST ? 1 << LUFFA_FULL : 0;
 }
 
 static void refused(enum call call, unsigned set)
@@ -176,9 +220,9 @@ static void refused(enum call call, unsigned set)
 static void alone(enum call call)
 {
     for (size_t i = 0; i < COUNT_OF(order); i++)
-        for (size_t way = 0; has[call] >> order[i] & 1 && way < ways(call, order[i]); way++) {
+        for (size_t way = 0; has(call) >> order[i] & 1 && way < ways(call, order[i]); way++) {
             put_right();
-            spoil(order[i], way);
+            spoil(call, order[i], way);
             refused(call, 1u << order[i]);
         }
 }
@@ -188,14 +232,16 @@ static void alone(enum call call)
 static void together(enum call call)
 {
     static size_t turn;
+    unsigned can = has(call);
 
-    for (unsigned set = has[call]; set != 0; set = (set - 1) & has[call]) {
-        if (set >> LUFFA_PLACE & 1 && ways(call, LUFFA_PLACE) == 0)
-            continue;
+    for (size_t i = 0; i < COUNT_OF(order); i++)
+        if (ways(call, order[i]) == 0)
+            can &= ~(1u << order[i]);
+    for (unsigned set = can; set != 0; set = (set - 1) & can) {
         put_right();
         for (size_t i = COUNT_OF(order); i-- > 0;)
             if (set >> order[i] & 1)
-                spoil(order[i], turn++ % ways(call, order[i]));
+                spoil(call, order[i], turn++ % ways(call, order[i]));
         refused(call, set);
     }
 }
@@ -204,7 +250,7 @@ static void together(enum call call)
 static void null_pointers(size_t code)
 {
     uint32_t marks[MARK];
-    uint8_t record[RECORD] = {0}, digest[LUFFA_512_BYTES], out[LUFFA_512_BYTES];
+    uint8_t record[RECORD] = {0}, sheet[RECORD], digest[LUFFA_512_BYTES], out[LUFFA_512_BYTES];
     size_t d = digest_bytes[code], place = 0;
 
     check(luffa_sheet_build(code, NULL, 0, 0, marks, MARK, digest, d).number == LUFFA_DONE, "no sheet");
@@ -230,13 +276,25 @@ static void null_pointers(size_t code)
     check(luffa_sheet_batch(code, NULL, 0, 0, marks, MARK, NULL, 0, NULL, 0, digest, d, out, d).number == LUFFA_DONE &&
               memcmp(out, digest, d) == 0,
           "no changes of nothing");
+    check(luffa_sheet_change_own(0, NULL, 0, 0, NULL, 0, 0, NULL, 0, NULL, 0, 0, NULL, 0, NULL, 0).number ==
+              LUFFA_WIDTH,
+          "nothing");
+    check(luffa_sheet_drop_own(code, NULL, 0, 0, marks, MARK, NULL, 0, 0, NULL, 0, out, d).number == LUFFA_PLACE,
+          "drop of nothing");
+    check(luffa_sheet_append_own(code, sheet, RECORD, 0, marks, MARK, record, RECORD, digest, d, 0, NULL, 0, out, d)
+                  .number == LUFFA_OWN,
+          "no own marks");
 }
 
-/* Sheets of over a thousand records take longer, and would show no other set. */
-static void all(enum call call)
+/* Sheets of over a thousand records take longer, and would show no other set; with own marks there are four times as
+   many sets, and each count has them at one code. */
+static void all(enum call call, int in_turn)
 {
-    alone(call);
-    if (built.n < 1000 || built.code == 4)
+    int small = built.n < 1000;
+
+    if (small || in_turn || !brings_own(call))
+        alone(call);
+    if (brings_own(call) ? in_turn : small || built.code == 4)
         together(call);
 }
 
@@ -248,8 +306,9 @@ int main(void)
         for (size_t i = 0; i < COUNT_OF(counts); i++) {
             built_sheet(&built, code, counts[i], 1);
             s = built;
-            for (int call = BUILD; call <= BATCH; call++)
-                all((enum call)call);
+            int in_turn = i % 4 + 1 == code;
+            for (int call = BUILD; call <= DROP_OWN; call++)
+                all((enum call)call, in_turn);
             /* And nothing was wrong with the sheet. */
             put_right();
             sheet_call(LUFFA_DONE, BATCH, &s);
@@ -257,11 +316,11 @@ int main(void)
             sheet_call(LUFFA_DONE, DROP, &s);
 
             /* The empty set is held to the same, for each count at one code. */
-            if (i % 4 + 1 != code)
+            if (!in_turn)
                 continue;
             batch_of(&built, 0, 0, 0);
             s = built;
-            all(BATCH);
+            all(BATCH, in_turn);
             put_right();
             sheet_call(LUFFA_DONE, BATCH, &s);
         }

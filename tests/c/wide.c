@@ -175,6 +175,61 @@ static void batches(void)
     munmap(places, bytes);
 }
 
+/* The three saves with these own marks answer the same and leave the sheet as it is. */
+static void own_saves(struct sheet *s, uint64_t want, size_t own_n, const uint32_t *own, size_t own_len)
+{
+    static struct sheet copy;
+
+    copy = *s;
+    check(luffa_sheet_change_own(s->code, s->sheet, s->sheet_len, s->n, s->marks, s->marks_len, s->place, s->record,
+                                 RECORD, s->claim, s->claim_len, own_n, own, own_len, s->out, s->out_len)
+                      .number == want &&
+              luffa_sheet_append_own(s->code, s->sheet, s->sheet_len, s->n, s->marks, s->marks_len, s->record, RECORD,
+                                     s->claim, s->claim_len, own_n, own, own_len, s->out, s->out_len)
+                      .number == want &&
+              luffa_sheet_drop_own(s->code, s->sheet, s->sheet_len, s->n, s->marks, s->marks_len, s->claim,
+                                   s->claim_len, own_n, own, own_len, s->out, s->out_len)
+                      .number == want &&
+              memcmp(s, &copy, sizeof copy) == 0,
+          "saves with marks of %zu own records in %zu words at code %zu", own_n, own_len, s->code);
+}
+
+/* Own marks in wide buffers. As many records as are few once they are cut, or whose marks need few words once the
+   product is; and a length that is too short once it is cut. */
+static void owns(void)
+{
+    enum { N = 9 };
+    static struct sheet s;
+    size_t bytes = 4 * WIDE + 65536;
+    uint32_t *own = (void *)map(bytes);
+    const size_t many[] = {
+        WIDE,       WIDE + N,   WIDE + MOST,      4 * WIDE,         WIDE << 29,   (WIDE << 29) + N,
+        WIDE << 30, WIDE << 31, (WIDE << 31) - 4, (WIDE << 31) - 1, SIZE_MAX - 3, SIZE_MAX,
+    };
+    const size_t lens[] = {WIDE, WIDE + 1, WIDE + MARK - 1, WIDE + LUFFA_MARKS_FOR(N) - 1};
+
+    for (size_t code = 1; code <= 4; code++) {
+        built_sheet(&s, code, N, 1);
+        memcpy(own, s.marks, 4 * LUFFA_MARKS_FOR(N));
+        for (int wrong = 0; wrong < 2; wrong++, s.claim[0] ^= 1)
+            for (size_t i = 0; i < COUNT_OF(many); i++)
+                own_saves(&s, LUFFA_OWN, many[i], own, WIDE);
+        s.claim[0] ^= 1;
+        for (size_t i = 0; i < COUNT_OF(lens); i++)
+            own_saves(&s, LUFFA_STALE_TAIL, N, own, lens[i]);
+        own[MARK] ^= 1;
+        for (size_t i = 0; i < COUNT_OF(lens); i++)
+            own_saves(&s, LUFFA_STALE, N, own, lens[i]);
+        s.code += WIDE;
+        own_saves(&s, LUFFA_WIDTH, N, own, WIDE);
+        s.code -= WIDE;
+        s.n += WIDE;
+        own_saves(&s, LUFFA_SHEET, N, own, WIDE);
+        memset(own, 0, 4 * LUFFA_MARKS_FOR(N));
+    }
+    munmap(own, bytes);
+}
+
 /* So many words were written to the beginning of the mapped bytes, and nothing after them; they are cleared. */
 static void written(struct luffa_output_answer got, uint8_t *mapped, const uint8_t *output, size_t words,
                     const char *call, size_t code)
@@ -227,6 +282,7 @@ int main(void)
 
     brine(mapped);
     batches();
+    owns();
     uint32_t *marks = (void *)map(4 * WIDE + 65536);
     for (size_t code = 1; code <= 4; code++) {
         /* A record buffer of 2^32 + 216 bytes isn't one of 216. */
