@@ -1,7 +1,8 @@
 /* Cycles per byte of the archive and of portable.c over the same messages in one run, of feeding against the one-call digest, and of the
    sheet calls against hashing the whole sheet, with the bars; then the other parts: bits.c has messages that stop inside a byte, output.c longer
-   output, mend.c the mending of marks, batch.c many changes in one save, plans.c what a sheet means, stack.c the stack of each call. It measures
-   nothing before all have given the same digests and marks, and the calls on sound sheets were right; --check leaves out the clock. */
+   output, mend.c the mending of marks, batch.c many changes in one save, own.c saves with own marks, plans.c what a sheet means, stack.c the stack
+   of each call. It measures nothing before all have given the same digests and marks, and the calls on sound sheets were right; --check leaves out
+   the clock. */
 #include "batch.h"
 #include "bench.h"
 #include "portable.h"
@@ -118,7 +119,7 @@ static int same_sheet(const char *call, struct luffa_sheet_answer answer, size_t
 
 /* A sheet that is built, changed at both ends and between and then at many places at once, appended to and dropped from; each save claims the
    digest before it. */
-static int saved(size_t code, const uint8_t *message, size_t n)
+static int saved(size_t code, const uint8_t *message, size_t n, size_t *compared)
 {
     static struct sheet sheet;
     struct job job = sheet_job(&sheet, code, message, n);
@@ -154,24 +155,28 @@ static int saved(size_t code, const uint8_t *message, size_t n)
         if (!same_sheet("drop", answer, n - 1, &job))
             return 0;
     }
+    ++*compared;
     return 1;
 }
 
-static int check_sheets(const uint8_t *message)
+int each_sheet(const char *what, sheet_check *right, size_t least, const uint8_t *message)
 {
     static const size_t LARGER[] = {100, 1021, 1022, 1023, SHEET_MOST};
+    size_t compared = 0;
 
     for (size_t code = 1; code <= CODES; code++) {
-        for (size_t n = 0; n <= 20; n++)
-            if (!saved(code, message, n))
+        for (size_t n = least; n <= 20; n++)
+            if (!right(code, message, n, &compared))
                 return 0;
         for (size_t i = 0; i < COUNT(LARGER); i++)
-            if (!saved(code, message, LARGER[i]))
+            if (!right(code, message, LARGER[i], &compared))
                 return 0;
     }
-    printf("the same digests after sheet calls, of 0 to %d records\n", SHEET_MOST);
+    printf("%s: %zu times, of %zu to %d records\n", what, compared, least, SHEET_MOST);
     return 1;
 }
+
+static int check_sheets(const uint8_t *message) { return each_sheet("the same digests after sheet calls", saved, 0, message); }
 
 /* -- The timing -- */
 
@@ -297,7 +302,8 @@ int main(int argc, char **argv)
     }
     fill(message, LONGEST);
 
-    if (!check(message) || !check_bits(message) || !check_outputs(message) || !check_sheets(message) || !check_mends(message) || !check_plans())
+    if (!check(message) || !check_bits(message) || !check_outputs(message) || !check_sheets(message) || !check_mends(message) ||
+        !check_owns(message) || !check_plans())
         return 1;
     if (!only_check) {
         digests(message);
@@ -308,6 +314,7 @@ int main(int argc, char **argv)
         sheets(message);
         mends(message);
         changes(message);
+        owns(message);
         plans();
     }
     return stacks(message) ? 0 : 1;

@@ -47,6 +47,12 @@ void race_sheets(const uint8_t *message, const struct raced *calls, size_t count
 /* Whether both give the same, each on a copy of the job; else it is printed, the first as the archive's. */
 int same(const char *way, work *a, work *b, const struct job *job);
 
+/* Whether a sheet of n records is right at a code; what was compared is counted. */
+typedef int sheet_check(size_t code, const uint8_t *message, size_t n, size_t *compared);
+
+/* Whether all are: of so many records to 20, and some to the most, at each code. Then it is printed with how often. */
+int each_sheet(const char *what, sheet_check *right, size_t least, const uint8_t *message);
+
 /* -- Messages that stop inside a byte (bits.c) -- */
 
 int check_bits(const uint8_t *message);
@@ -65,6 +71,11 @@ void mends(const uint8_t *message);
 /* -- Many changes in one save (batch.c) -- */
 
 void changes(const uint8_t *message);
+
+/* -- Saves with own marks (own.c) -- */
+
+int check_owns(const uint8_t *message);
+void owns(const uint8_t *message);
 
 /* -- What sheets mean (plans.c) -- */
 

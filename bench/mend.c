@@ -43,22 +43,7 @@ static int mended_all_ways(size_t code, const uint8_t *message, size_t n, size_t
     return mended(&job, built, last + 1, 0);
 }
 
-int check_mends(const uint8_t *message)
-{
-    static const size_t LARGER[] = {100, 1021, 1022, 1023, SHEET_MOST};
-    size_t compared = 0;
-
-    for (size_t code = 1; code <= CODES; code++) {
-        for (size_t n = 0; n <= 20; n++)
-            if (!mended_all_ways(code, message, n, &compared))
-                return 0;
-        for (size_t i = 0; i < COUNT(LARGER); i++)
-            if (!mended_all_ways(code, message, LARGER[i], &compared))
-                return 0;
-    }
-    printf("the same marks as build's after a mend: %zu times, of 0 to %d records\n", compared, SHEET_MOST);
-    return 1;
-}
+int check_mends(const uint8_t *message) { return each_sheet("the same marks as build's after a mend", mended_all_ways, 0, message); }
 
 /* The mending of a full sheet against its build, which makes a few rounds more. */
 void mends(const uint8_t *message)

@@ -3,6 +3,7 @@
 #include "bench.h"
 #include "mend.h"
 #include "output.h"
+#include "own.h"
 #include "wells.h"
 
 #include <stdio.h>
@@ -106,6 +107,9 @@ int stacks(const uint8_t *message)
         {"luffa_sheet_drop", archive_drop, 0},
         {"luffa_sheet_mend", archive_mend_wrong, 0},
         {"luffa_sheet_batch", archive_batch_64, 0},
+        {"luffa_sheet_change_own", both_changes_own, 0},
+        {"luffa_sheet_append_own", both_appends_own, 0},
+        {"luffa_sheet_drop_own", both_drops_own, 0},
     };
     static const size_t LENGTHS[] = {0, 1, 31, 32, 33, 63, 64, 65, 200, 4096, 65537}, HELD[] = {0, 1, 16, 31, 32};
     static const size_t RECORDS[] = {1, 2, 3, 4, 5, 9, 1023, SHEET_MOST};

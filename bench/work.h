@@ -27,11 +27,11 @@ struct job {
     struct batch *batch;
 };
 
-/* n records and their marks, the last mark once more, and the digests of all records and of all but the last. */
+/* n records and their marks, these once more as a planner's own, the last mark again, and the digests of all records and of all but the last. */
 struct sheet {
     size_t n;
     uint8_t records[SHEET_RECORD * SHEET_MOST];
-    uint32_t marks[MARKS_MOST], last_mark[LUFFA_MARK_WORDS];
+    uint32_t marks[MARKS_MOST], own[MARKS_MOST], last_mark[LUFFA_MARK_WORDS];
     uint8_t digest[MOST_DIGEST_BYTES], without_last[MOST_DIGEST_BYTES];
 };
 
@@ -141,16 +141,23 @@ static inline uint32_t archive_append(struct job *job)
         .number;
 }
 
-/* The last record dropped; it and the last mark, which a drop may zero, are then put back. These 200 bytes are in the figure. */
-static inline uint32_t archive_drop(struct job *job)
+/* What a drop takes away is put back: the last record, and the last mark, which it may zero. */
+static inline void put_back(struct job *job)
 {
     struct sheet *s = job->sheet;
     size_t last = s->n - 1;
+    memcpy(s->marks + LUFFA_MARK_WORDS * (s->n / 4), s->last_mark, sizeof s->last_mark);
+    memcpy(s->records + SHEET_RECORD * last, job->message + SHEET_RECORD * last, SHEET_RECORD);
+}
+
+/* The last record dropped and put back. These 200 bytes are in the figure. */
+static inline uint32_t archive_drop(struct job *job)
+{
+    struct sheet *s = job->sheet;
     uint32_t answer = (uint32_t)luffa_sheet_drop(job->code, s->records, sizeof s->records, s->n, s->marks, MARKS_MOST, s->digest,
                                                  DIGEST_BYTES[job->code], job->out, sizeof job->out)
                           .number;
-    memcpy(s->marks + LUFFA_MARK_WORDS * (s->n / 4), s->last_mark, sizeof s->last_mark);
-    memcpy(s->records + SHEET_RECORD * last, job->message + SHEET_RECORD * last, SHEET_RECORD);
+    put_back(job);
     return answer;
 }
 
@@ -171,6 +178,7 @@ static inline struct job sheet_job(struct sheet *sheet, size_t code, const uint8
     }
     memcpy(sheet->without_last, job.out, sizeof sheet->without_last);
     archive_build(&job);
+    memcpy(sheet->own, sheet->marks, sizeof sheet->own);
     memcpy(sheet->last_mark, sheet->marks + LUFFA_MARK_WORDS * (n / 4), sizeof sheet->last_mark);
     memset(job.out, FILL, sizeof job.out);
     return job;

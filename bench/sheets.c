@@ -1,0 +1,38 @@
+/* Makes calls on one sheet in turn, for bench/mending and bench/where to count what they take: `sheets CODE RECORDS CALL..`, where a call is `build`;
+   `true`, a mend of marks that are true, or `wrong`, one of marks that are all wrong; `open`, which copies the marks and the digest of a build;
+   `change` at the last place, `own`, the same with own marks, or `stale`, that is told the last group. */
+#include "mend.h"
+#include "own.h"
+
+#include <stdlib.h>
+
+static uint32_t open_own(struct job *job)
+{
+    memcpy(job->sheet->digest, job->out, sizeof job->sheet->digest);
+    memcpy(job->sheet->own, job->sheet->marks, sizeof job->sheet->own);
+    return LUFFA_DONE;
+}
+
+int main(int argc, char **argv)
+{
+    static const struct {
+        const char *name;
+        work *run;
+    } CALLS[] = {{"build", archive_build},        {"true", archive_mend_true},  {"wrong", archive_mend_wrong}, {"open", open_own},
+                 {"change", archive_change_last}, {"own", archive_change_own}, {"stale", archive_stale_own}};
+    static uint8_t message[SHEET_RECORD * SHEET_MOST];
+    static struct sheet sheet;
+
+    sheet.n = argc > 2 ? strtoul(argv[2], NULL, 10) : SHEET_MOST + 1;
+    if (sheet.n > SHEET_MOST)
+        return 2;
+    fill(message, SHEET_RECORD * sheet.n);
+    memcpy(sheet.records, message, SHEET_RECORD * sheet.n);
+    struct job job = job_of(strtoul(argv[1], NULL, 10), message, SHEET_RECORD * sheet.n);
+    job.sheet = &sheet;
+    for (int i = 3; i < argc; i++)
+        for (size_t k = 0; k < COUNT(CALLS); k++)
+            if (strcmp(argv[i], CALLS[k].name) == 0 && CALLS[k].run(&job) != LUFFA_DONE)
+                return 1;
+    return 0;
+}
