@@ -4,3 +4,4 @@ pub mod Written
 pub mod Desks
 pub mod Planners
 pub mod Instances
+pub mod Where

@@ -23,4 +23,5 @@ pub mod Sentences
 pub mod Examples
 pub mod Instances
 pub mod Evenings
+pub mod Told
 pub mod Determined

@@ -70,12 +70,12 @@ fn compare(code: usize, held: &[u32], own: &[u32], last: usize) -> Where
     requires { ⌜ (40 * (last + 1) ≤ length (now held)) × (40 * (last + 1) ≤ length (now own)) ⌝ }
     ensures { λ r. ⌜ r ≡ compared code (now (held .entry)) (now (own .entry)) last 0 ⌝ }
 {
-    let w = codes::width(code);
+    let used = codes::width(code);
     let mut pairs = 0;
     let mut g = 0;
     while g < last {
         pairs = pairs + 1;
-        if other(w, held, own, g + 1) {
+        if other(used, held, own, g + 1) {
             return Where {
                 found: Found::Group(g),
                 pairs: pairs,
