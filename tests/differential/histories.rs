@@ -526,7 +526,8 @@ impl History {
         };
     }
 
-    /// A planner's save, in a third of those that can with the marks that he has seen last.
+    /// A planner's save, at times with the marks that he has seen last. Of large sheets there are few, and each plain save
+    /// of them must be met too.
     fn save(
         &mut self,
         call: Call,
@@ -535,7 +536,8 @@ impl History {
         numbers: &mut Numbers,
         met: &mut Met,
     ) -> Result<(Answer, bool), String> {
-        let own = owns::CALLS.contains(&call) && numbers.between(0, 2) == 0;
+        let one_in = if self.n < 1000 { 3 } else { 6 };
+        let own = owns::CALLS.contains(&call) && numbers.between(1, one_in) == 1;
         let answer = match own {
             true => self.call_own(call, given, planner, met)?,
             false => self.call(call, given, met)?,
