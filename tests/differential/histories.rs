@@ -526,7 +526,7 @@ impl History {
         };
     }
 
-    /// A planner's save, at times with the marks that he has seen last. Of large sheets there are few, and each plain save
+    /// A planner's save, at times with the marks that were seen last. Of large sheets there are few, and each plain save
     /// of them must be met too.
     fn save(
         &mut self,

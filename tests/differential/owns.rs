@@ -1,4 +1,4 @@
-//! Saves with the planner's own marks: those of the sheet as he opened it, which is an older, newer, longer or shorter
+//! Saves with the planner's own marks: those of the sheet as it was opened, which is an older, newer, longer or shorter
 //! one than that held, or words that part from the marks held where they are made to; and what is refused of them. Every
 //! call goes through calls.rs, and the archive's plain save must do the same but for what is said of the marks.
 
@@ -275,7 +275,7 @@ impl Numbers {
         held
     }
 
-    /// What the planner brings to a call: the marks of the sheet that he opened, or words that part from those held.
+    /// What the planner brings to a call: the marks of the sheet as it was opened, or words that part from those held.
     fn owned(&mut self, held: &Mending, opened: Option<&Kept>) -> Own {
         let mut own = match opened {
             Some(Kept { marked, .. }) => Own {

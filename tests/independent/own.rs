@@ -5,7 +5,7 @@
 use crate::luffa::{CODES, V};
 use crate::sheet::{no_marks, Record, Sheet, GROUP, MARK_WORDS, MOST};
 
-/// A planner's count, and the words lent as his marks.
+/// A planner's count, and the words lent as the marks.
 #[derive(Clone, Debug, Default)]
 pub struct Own {
     pub n: usize,
