@@ -8,12 +8,13 @@ use lib.IntN.{ℤ}
 use lib.ListN.{length, getD, take, drop, length-drop, drop-of-length-le}
 use Rattle.plan_definition.specs.Well.{wells}
 use Rattle.plan_definition.proofs.Some.{at-index}
+use Rattle.plan_definition.proofs.Listed.{length-wells}
 use Rattle.brine_definition.specs.declared.Statement.{Statement}
 use Rattle.brine_definition.specs.Count.{sum}
 use Rattle.brine_definition.specs.Page.{rows}
 use Rattle.brine_definition.specs.Statement.{batch, page, intakes, spares, statementOf, BrineOutcome, brineOutcome}
 use Rattle.brine_definition.proofs.Sums.{intakes-append, spares-append, length-intakes, length-spares}
-use Rattle.brine_definition.proofs.Sound.{length-rows, length-wells}
+use Rattle.brine_definition.proofs.Sound.{length-rows}
 use Rattle.brine_definition.proofs.Outcomes.{given, done}
 use Rattle.brine_definition.proofs.Refused.{none-refused}
 use Rattle.brine_sheet.proofs.Alone.{done-alone}

@@ -18,12 +18,15 @@ use Rattle.plan_definition.specs.Some.Among.{here, later}
 use Rattle.plan_definition.specs.Well.{wellsFrom, wells}
 use Rattle.plan_definition.specs.Rules.{producer, injector, used, total}
 use Rattle.plan_definition.specs.Sound.{NamesInjector, Keeps, KeepsLinks, KeepsRepeat, Sound}
+use Rattle.plan_definition.specs.Check.{sound}
 use Rattle.plan_definition.proofs.Faults.{Rising, rising}
+use Rattle.plan_definition.proofs.Tested.{sound-tested}
+use Rattle.plan_definition.proofs.Listed.{length-wells}
 use Rattle.brine_definition.specs.Count.{sum}
-use Rattle.brine_definition.specs.Page.{Row, brought, intakeFrom, rowOf, rowWhen, sound, rowIn, rows, produced}
+use Rattle.brine_definition.specs.Page.{Row, brought, intakeFrom, rowOf, rowWhen, rowIn, rows, produced}
 use Rattle.brine_definition.specs.Statement.{batch, page, intakes}
 use Rattle.brine_definition.proofs.Sums.{pick-zero, sum-zeros, pick-most, page-intakes}
-use Rattle.brine_definition.proofs.Sound.{sound-exactly, faulted-intakes, length-wells}
+use Rattle.brine_definition.proofs.Sound.{faulted-intakes}
 use Rattle.brine_definition.proofs.Bounds.{carried, produced-most}
 
 -- what some wells' injectors receive, if one of number k receives f k
@@ -113,7 +116,7 @@ pub conserved : (xs : List (List ℕ)) → Sound (wellsFrom 0 xs) → sum (intak
 unfolding Sound
 conserved xs h =
     let ws = wellsFrom 0 xs in
-    intakes-received ws (sound-exactly ws .1 h)
+    intakes-received ws (sound-tested ws .1 h)
     ∙ producers-bring ws (distinct ws ws (λ w m. m) (rising 0 xs) h) ws h
 
 -- so of any sheet, of which a faulted one's total nothing
@@ -123,7 +126,7 @@ unfolding wells pick
 sheet-total n sheet = go (sound (wells n sheet)) refl
   where
     go : (b : Bool) → sound (wells n sheet) ≡ b → sum (intakes (rows (wells n sheet))) ≡ 1000 * pick b (produced (wells n sheet)) 0
-    go true e = conserved (cut n sheet) (sound-exactly (wells n sheet) .0 e)
+    go true e = conserved (cut n sheet) (sound-tested (wells n sheet) .0 e)
     go false e = rw (faulted-intakes (wells n sheet) e) (sum-zeros (length (wells n sheet)))
 
 -- no sheet's total more than 100,000,000 for each record
@@ -135,7 +138,7 @@ sheet-most n sheet =
       sheet-total n sheet,
       length-wells n sheet,
       pick-most (sound ws) (produced ws) (100000 * length ws) (λ e.
-          produced-most ws (sound-exactly ws .0 e)),
+          produced-most ws (sound-tested ws .0 e)),
     )
 
 -- and no batch's

@@ -9,8 +9,8 @@ use lib.IntN.{ℤ, pos}
 use lib.ListN.{length, replicate}
 use Rattle.definition.specs.Refusal.{pick}
 use Rattle.plan_definition.specs.declared.Well.{Well}
+use Rattle.plan_definition.specs.Check.{sound}
 use Rattle.brine_definition.specs.Count.{count}
-use Rattle.brine_definition.specs.Page.{sound}
 use Rattle.brine_definition.specs.Statement.{batch, page, belowZero, statementOf, brineOutcome}
 use Rattle.brine_definition.specs.Said.{OneMore, Alike}
 use Rattle.brine_definition.specs.Said.Alike.{none, equal, faulted}

@@ -18,12 +18,15 @@ use Rattle.plan_definition.specs.Some.Among.{here, later}
 use Rattle.plan_definition.specs.Well.{wells}
 use Rattle.plan_definition.specs.Rules.{injector}
 use Rattle.plan_definition.specs.Sound.{Sound, KeepsRate}
+use Rattle.plan_definition.specs.Check.{sound}
+use Rattle.plan_definition.proofs.Tested.{sound-tested}
+use Rattle.plan_definition.proofs.Listed.{length-wells}
 use Rattle.brine_definition.specs.Count.{sum}
-use Rattle.brine_definition.specs.Page.{Row, rowOf, rowWhen, sound, rows, intakeFrom, rowIn}
+use Rattle.brine_definition.specs.Page.{Row, rowOf, rowWhen, rows, intakeFrom, rowIn}
 use Rattle.brine_definition.specs.Statement.{batch, page, spares, belowZero, statementOf}
 use Rattle.brine_definition.specs.Said.{noRow, AnswerFits}
 use Rattle.brine_definition.proofs.Sums.{count-most, length-spares}
-use Rattle.brine_definition.proofs.Sound.{sound-exactly, length-wells, length-batch, length-page}
+use Rattle.brine_definition.proofs.Sound.{length-batch, length-page}
 use Rattle.brine_definition.proofs.Bounds.{intake-most}
 use Rattle.brine_definition.proofs.Conserved.{total-most}
 use Rattle.brine_definition.proofs.Spare.{spare-within}
@@ -45,7 +48,7 @@ module _ (ws : List Well) (m : ℕ) (h : 100000000 * length ws ≤ m) where
   well-within : (w : Well) → Among w ws → (s i : Bool) → sound ws ≡ s → Within m (rowWhen (s && i) (rowOf ws w))
   unfolding rowWhen rowOf Sound KeepsRate
   well-within w a true true e =
-      let keeps = sound-exactly ws .0 e in
+      let keeps = sound-tested ws .0 e in
       let most = intake-most ws keeps (w .number) in
       let rate = keeps w a .rate in
       let one = among-length a in

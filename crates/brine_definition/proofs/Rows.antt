@@ -1,50 +1,25 @@
 -- Where a row stands: record i of sheet k has place (records of the sheets before) + i, in the page and in both lists.
 -- Assumes nothing.
-use mathlib.Core.Path.{_≡_, refl, _∙_}
+use mathlib.Core.Path.{_≡_, _∙_}
 use mathlib.Core.List.{List, [], _∷_, _++_, map}
 use Prim.Native.Nat.{ℕ, zero, suc, _+_, _*_, _<_}
 use native.Mathlib.Omega.{arith}
 use lib.IntN.{ℤ, pos}
-use lib.ListN.{length, getD, take, drop, length-map, List·getD-append, List·getD-map}
+use lib.ListN.{length, getD, drop, length-map, List·getD-append, List·getD-map}
 use lib.Seq.{drop-drop, getD-append-add}
-use Rattle.sheet_definition.specs.Run.{cut}
-use Rattle.plan_definition.specs.declared.Well.{Well}
-use Rattle.plan_definition.specs.Well.{wellOf, wellsFrom, wells}
-use Rattle.plan_definition.proofs.Places.{wellAt}
+use Rattle.plan_definition.specs.Well.{wells}
+use Rattle.plan_definition.proofs.Listed.{length-wells, each-at}
 use Rattle.brine_definition.specs.Count.{sum}
 use Rattle.brine_definition.specs.Page.{Row, rows, rowIn}
 use Rattle.brine_definition.specs.Statement.{batch, page, intakes, spares, brineOutcome}
 use Rattle.brine_definition.specs.Said.{before, sheetAt, rowAt, noRow}
-use Rattle.brine_definition.proofs.Sound.{length-rows, length-wells, length-page}
+use Rattle.brine_definition.proofs.Sound.{length-rows, length-page}
 use Rattle.brine_definition.proofs.Outcomes.{given, done}
 
--- the well at a place of a sheet
-from-place : (n p i : ℕ) (sheet : List ℕ) (d : Well) → i < n
-    → getD (wellsFrom p (cut n sheet)) i d ≡ wellOf (p + i) (take 40 (drop (40 * i) sheet))
-unfolding wellsFrom cut
-from-place zero p i sheet d h = absurd (omega arith)
-from-place (suc n) p zero sheet d h = let e : p + 0 ≡ p = omega arith in rw e
-from-place (suc n) p (suc i) sheet d h =
-    let e : p + suc i ≡ suc p + i = omega arith in
-    let f : 40 * suc i ≡ 40 + 40 * i = omega arith in
-    rw (from-place n (suc p) i (drop 40 sheet) d (omega arith), drop-drop (40 * i) 40 sheet, e, f)
-
-pub well-at : (n i : ℕ) (sheet : List ℕ) (d : Well) → i < n → getD (wells n sheet) i d ≡ wellAt i sheet
-unfolding wells
-well-at n i sheet d h = let e : 0 + i ≡ i = omega arith in rw e at (from-place n 0 i sheet d h)
-
-map-at : {A B : Type 0} (f : A → B) (l : List A) (i : ℕ) (a : A) (b : B) → i < length l → getD (map f l) i b ≡ f (getD l i a)
-map-at f [] i a b h = absurd (omega arith)
-map-at f (x ∷ l) zero a b h = refl
-map-at f (x ∷ l) (suc i) a b h = map-at f l i a b (omega arith)
-
--- its row
+-- the row of a well
 sheet-row : (n i : ℕ) (sheet : List ℕ) → i < n → getD (rows (wells n sheet)) i noRow ≡ rowAt n i sheet
 unfolding rows
-sheet-row n i sheet h =
-    let ws = wells n sheet in
-    map-at (rowIn ws) ws i (wellAt i sheet) noRow (omega (arith, length-wells n sheet))
-    ∙ rw (well-at n i sheet (wellAt i sheet) h)
+sheet-row n i sheet h = each-at n sheet (rowIn (wells n sheet)) noRow i h
 
 -- the row of record i of sheet k
 pub row-at : (counts sheets : List ℕ) (k i : ℕ) → k < length counts → i < getD counts k 0

@@ -1,37 +1,20 @@
--- The sheets that count as sound are those whose wells all keep the rules; every row of any other is zeros; and how long page and lists are.
+-- Every row of a sheet that is not sound is zeros; how long page and lists are; and each sheet begins where the one before it ends.
 -- Assumes nothing.
-use mathlib.Core.Path.{_≡_, refl, ap, _∙_}
-use mathlib.Core.Logic.{_↔_, Iff·trans}
-use mathlib.Core.Bool.{true, false, false≢true}
+use mathlib.Core.Path.{_≡_, refl, ap}
+use mathlib.Core.Bool.{false}
 use mathlib.Core.List.{List, [], _∷_, map}
 use Prim.Native.Nat.{ℕ, suc, _*_}
 use lib.IntN.{pos}
 use lib.ListN.{length, drop, replicate, length-append, length-map}
-use Rattle.sheet_definition.specs.Run.{cut}
-use Rattle.sheet_definition.proofs.Joined.{length-cut}
 use Rattle.plan_definition.specs.declared.Well.{Well}
-use Rattle.plan_definition.specs.declared.Verdict.{Verdict}
-use Rattle.plan_definition.specs.declared.Verdict.the-variants.{Refused, Sound, Fault}
-use Rattle.plan_definition.specs.Well.{wellsFrom, wells}
-use Rattle.plan_definition.specs.Sound.{Sound as SoundSheet}
-use Rattle.plan_definition.specs.Check.{firstFault}
-use Rattle.plan_definition.proofs.Faults.{none-faulty}
+use Rattle.plan_definition.specs.Well.{wells}
+use Rattle.plan_definition.specs.Check.{sound}
+use Rattle.plan_definition.proofs.Listed.{length-wells}
 use Rattle.brine_definition.specs.Count.{sum}
-use Rattle.brine_definition.specs.Page.{rowWhen, saysSound, sound, rowIn, rows}
+use Rattle.brine_definition.specs.Page.{rowWhen, rowIn, rows}
 use Rattle.brine_definition.specs.Statement.{batch, page, intakes, spares}
 use Rattle.brine_definition.specs.Said.{noRow}
 use Rattle.brine_definition.proofs.Sums.{map-replicate}
-
-says-sound : (v : Verdict) → (saysSound v ≡ true) ↔ (v ≡ Sound)
-unfolding saysSound
-says-sound (Refused k) = (λ e. absurd (false≢true e), λ e. cc)
-says-sound Sound = (λ e. refl, λ e. refl)
-says-sound (Fault rule place) = (λ e. absurd (false≢true e), λ e. cc)
-
--- a sheet is sound exactly when every well keeps the rules
-pub sound-exactly : (ws : List Well) → (sound ws ≡ true) ↔ SoundSheet ws
-unfolding sound SoundSheet
-sound-exactly ws = Iff·trans (says-sound (firstFault ws ws)) (none-faulty ws ws)
 
 module _ (ws : List Well) (faulted : sound ws ≡ false) where
   -- any other has only rows of zeros
@@ -55,15 +38,6 @@ module _ (ws : List Well) (faulted : sound ws ≡ false) where
 pub length-rows : (ws : List Well) → length (rows ws) ≡ length ws
 unfolding rows
 length-rows ws = length-map ws _
-
-wells-from : (i : ℕ) (xs : List (List ℕ)) → length (wellsFrom i xs) ≡ length xs
-unfolding wellsFrom
-wells-from i [] = refl
-wells-from i (x ∷ xs) = ap suc (wells-from (suc i) xs)
-
-pub length-wells : (n : ℕ) (sheet : List ℕ) → length (wells n sheet) ≡ n
-unfolding wells
-length-wells n sheet = wells-from 0 (cut n sheet) ∙ length-cut n sheet
 
 -- and the page one for each of the batch
 pub length-page : (counts sheets : List ℕ) → length (page (batch counts sheets)) ≡ sum counts

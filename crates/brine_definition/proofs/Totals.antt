@@ -13,8 +13,9 @@ use Rattle.definition.specs.Refusal.{pick}
 use Rattle.plan_definition.specs.declared.Well.{Well}
 use Rattle.plan_definition.specs.Well.{wells}
 use Rattle.plan_definition.specs.Rules.{injector}
+use Rattle.plan_definition.specs.Check.{sound}
 use Rattle.brine_definition.specs.Count.{sum, count}
-use Rattle.brine_definition.specs.Page.{intakeFrom, rowOf, rowWhen, sound, rows, produced, rowIn}
+use Rattle.brine_definition.specs.Page.{intakeFrom, rowOf, rowWhen, rows, produced, rowIn}
 use Rattle.brine_definition.specs.Statement.{batch, page, intakes, spares, belowZero, statementOf, brineOutcome}
 use Rattle.brine_definition.specs.Said.{overloadedIn}
 use Rattle.brine_definition.proofs.Sums.{count-not, page-intakes, page-spares}

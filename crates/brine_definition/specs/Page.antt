@@ -7,10 +7,8 @@ use lib.IntN.{ℤ, pos, _-ℤ_}
 use Rattle.definition.specs.Refusal.{pick}
 use Rattle.plan_definition.specs.declared.Link.{Link}
 use Rattle.plan_definition.specs.declared.Well.{Well}
-use Rattle.plan_definition.specs.declared.Verdict.{Verdict}
-use Rattle.plan_definition.specs.declared.Verdict.the-variants.{Refused, Sound, Fault}
 use Rattle.plan_definition.specs.Rules.{producer, injector, used}
-use Rattle.plan_definition.specs.Check.{firstFault}
+use Rattle.plan_definition.specs.Check.{sound}
 
 -- "a producer's tonnes times its share in thousandths": the kilograms a day that links at a rate bring to the injector of a number
 unfoldable pub brought : (rate : ℕ) → List Link → (number : ℕ) → ℕ
@@ -40,15 +38,6 @@ rowOf ws w =
 unfoldable pub rowWhen : Bool → Row → Row
 rowWhen true r = r
 rowWhen false r = record { intake = 0; spare = pos 0 }
-
--- "sheets faulted by Q-1"
-unfoldable pub saysSound : Verdict → Bool
-saysSound (Refused number) = false
-saysSound Sound = true
-saysSound (Fault rule place) = false
-
-unfoldable pub sound : List Well → Bool
-sound ws = saysSound (firstFault ws ws)
 
 -- ".. for producers and for every record of a faulted sheet"
 abbrev pub rowIn : List Well → Well → Row

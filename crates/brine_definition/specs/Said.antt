@@ -12,9 +12,10 @@ use Rattle.plan_definition.specs.declared.Well.{Well}
 use Rattle.plan_definition.specs.Some.{Among}
 use Rattle.plan_definition.specs.Well.{wellOf, wells}
 use Rattle.plan_definition.specs.Rules.{injector}
+use Rattle.plan_definition.specs.Check.{sound}
 use Rattle.brine_definition.specs.declared.Statement.{Statement}
 use Rattle.brine_definition.specs.Count.{sum}
-use Rattle.brine_definition.specs.Page.{Row, intakeFrom, rowIn, sound}
+use Rattle.brine_definition.specs.Page.{Row, intakeFrom, rowIn}
 
 -- "more than 64 sheets", or no more
 abbrev pub TooMany : (counts : List ℕ) → Type 0

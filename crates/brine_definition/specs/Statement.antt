@@ -11,9 +11,10 @@ use Rattle.sheet_definition.specs.Sheet.{most, recordBytes}
 use Rattle.plan_definition.specs.declared.Well.{Well}
 use Rattle.plan_definition.specs.Some.{some}
 use Rattle.plan_definition.specs.Well.{wells}
+use Rattle.plan_definition.specs.Check.{sound}
 use Rattle.brine_definition.specs.declared.Statement.{Statement}
 use Rattle.brine_definition.specs.Count.{sum, count}
-use Rattle.brine_definition.specs.Page.{Row, sound, rows}
+use Rattle.brine_definition.specs.Page.{Row, rows}
 
 -- "The sheets are lent one after another in one buffer with a list of their counts."
 unfoldable pub batch : (counts sheets : List ℕ) → List (List Well)

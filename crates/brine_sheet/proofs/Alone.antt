@@ -1,6 +1,6 @@
 -- A batch of one sheet: its refusals are the sheet's own and that of short lists, and where none is given the sheet's rows are its page.
 -- Assumes nothing.
-use mathlib.Core.Path.{_≡_, ap, _∙_}
+use mathlib.Core.Path.{_≡_, _∙_}
 use mathlib.Core.Bool.{false, or-false}
 use mathlib.Core.List.{List, [], _∷_, _++_, append-nil}
 use Prim.Native.Nat.{ℕ, _+_, _*_, _≤_}
@@ -8,18 +8,16 @@ use native.Mathlib.Omega.{arith}
 use lib.Dec.{ltb}
 use lib.IntN.{ℤ}
 use lib.ListN.{length, drop}
-use Rattle.definition.specs.Refusal.{pick, firstOf, whenDone}
+use Rattle.definition.specs.Refusal.{pick, firstOf}
 use Rattle.sheet_definition.specs.Refusals.{sheetRefusal}
 use Rattle.plan_definition.specs.declared.Well.{Well}
-use Rattle.plan_definition.specs.declared.Verdict.{Verdict}
 use Rattle.plan_definition.specs.Some.{some}
 use Rattle.plan_definition.specs.Some.Among.{here}
 use Rattle.plan_definition.specs.Well.{wells}
-use Rattle.plan_definition.specs.Check.{verdict}
-use Rattle.plan_definition.proofs.Verdicts.{room}
+use Rattle.plan_definition.specs.Check.{sound}
 use Rattle.brine_definition.specs.declared.Statement.{Statement}
 use Rattle.brine_definition.specs.Count.{sum, count}
-use Rattle.brine_definition.specs.Page.{saysSound, sound, rows}
+use Rattle.brine_definition.specs.Page.{rows}
 use Rattle.brine_definition.specs.Statement.{batch, page, intakes, spares, statementOf, listRefusal, brineRefusals, brineOutcome}
 use Rattle.brine_definition.proofs.Sums.{sum-zeros}
 use Rattle.brine_definition.proofs.Sound.{faulted-intakes, faulted-spares}
@@ -31,12 +29,6 @@ pub alone : (sheet n intake spare : ℕ)
     → firstOf (brineRefusals sheet (n ∷ []) intake spare) ≡ firstOf (sheetRefusal n sheet ∷ listRefusal n intake spare ∷ [])
 unfolding brineRefusals sheetRefusal some sum firstOf pick
 alone sheet n intake spare = let e : n + 0 ≡ n = omega arith in rw (e, or-false (ltb 1024 n))
-
--- where the sheet has room for its records the check says whether it is sound
-pub says : (n : ℕ) (sheet : List ℕ) (v : Verdict) → n ≤ 1024 → 40 * n ≤ length sheet → v ≡ verdict sheet n
-    → saysSound v ≡ sound (wells n sheet)
-unfolding verdict whenDone sound
-says n sheet v few fits e = ap saysSound (e ∙ rw (room n (length sheet) .1 (few, fits)))
 
 -- of a faulted sheet there is nothing but that it is one
 pub faulted-alone : (ws : List Well) → sound ws ≡ false

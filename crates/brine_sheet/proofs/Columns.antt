@@ -1,36 +1,24 @@
--- A list that has a well's figure at its place is the column of these figures; and the intakes that were sent are the page's.
+-- The intakes that were sent are the page's, and zeros can take them.
 -- Assumes nothing.
 use mathlib.Core.Path.{_≡_, sym, _∙_}
-use mathlib.Core.List.{List, map, map-map}
-use Prim.Native.Nat.{ℕ, zero, suc, _+_, _*_, _<_}
+use mathlib.Core.List.{List, map-map}
+use Prim.Native.Nat.{ℕ, _*_, _<_}
 use native.Mathlib.Omega.{arith}
-use lib.ListN.{length, getD, drop, replicate, drop-of-length-le, length-replicate, getD-replicate}
-use lib.Seq.{drop-cons}
-use Rattle.plan_definition.specs.declared.Well.{Well}
+use lib.ListN.{length, replicate, length-replicate, getD-replicate}
 use Rattle.plan_definition.specs.Well.{wells}
 use Rattle.plan_definition.specs.Rules.{injector}
-use Rattle.plan_definition.proofs.Places.{wellAt, left, left-all, left-step, left-none}
+use Rattle.plan_definition.specs.Check.{sound}
+use Rattle.plan_definition.proofs.Places.{wellAt}
+use Rattle.plan_definition.proofs.Tested.{sound-tested}
+use Rattle.plan_definition.proofs.Listed.{length-wells, column}
 use Rattle.plan_places.specs.Places.{placed}
-use Rattle.brine_definition.specs.Page.{rowOf, sound, rows, rowIn}
+use Rattle.brine_definition.specs.Page.{rowOf, rows, rowIn}
 use Rattle.brine_definition.specs.Statement.{intakes}
 use Rattle.brine_definition.proofs.Sums.{pick-most}
-use Rattle.brine_definition.proofs.Sound.{sound-exactly, length-wells}
 use Rattle.brine_definition.proofs.Bounds.{intake-most}
 use Rattle.brine_definition.proofs.Conserved.{when-intake}
 use Rattle.brine_sheet.specs.Sent.{sentTo, Added, Takes}
 use Rattle.brine_sheet.proofs.Found.{Given, sent-there}
-
-module _ (n : ℕ) (sheet : List ℕ) where
-  module _ {A : Type 0} (f : Well → A) (d : A) (x : List A) (long : length x ≡ n) (each : (q : ℕ) → q < n → getD x q d ≡ f (wellAt q sheet)) where
-    from : (k i : ℕ) → i + k ≡ n → drop i x ≡ map f (left i n sheet)
-    from zero i e =
-        let z : i ≡ n = omega arith in
-        drop-of-length-le x {i = i} (omega arith) ∙ rw (z, left-none n sheet)
-    from (suc k) i e =
-        drop-cons x i d (omega arith) ∙ rw (each i (omega arith), from k (suc i) (omega arith), left-step n sheet i (omega arith))
-
-    pub column : x ≡ map f (wells n sheet)
-    column = rw (← left-all n sheet) (from n 0 (omega arith))
 
 module _ {n : ℕ} {sheet t : List ℕ} (g : Given n sheet t) where
   -- zeros can take what is sent: an intake is at most 100,000,000 kilograms a day for each record
@@ -49,6 +37,6 @@ module _ {n : ℕ} {sheet t : List ℕ} (g : Given n sheet t) where
   unfolding intakes rows Added rowOf
   sent-intakes x e h =
       column n sheet (λ w. rowIn (wells n sheet) w .intake) 0 x e (λ q l.
-      h q ∙ rw (getD-replicate {A = ℕ} n q 0 0 l, sound-exactly (wells n sheet) .1 (g .sound), sent-there g q l)
+      h q ∙ rw (getD-replicate {A = ℕ} n q 0 0 l, sound-tested (wells n sheet) .1 (g .sound), sent-there g q l)
       (omega (arith, when-intake (injector (wellAt q sheet)) (rowOf (wells n sheet) (wellAt q sheet)))))
       ∙ sym (map-map (λ r. r .intake) (rowIn (wells n sheet)) (wells n sheet))

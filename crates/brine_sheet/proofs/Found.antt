@@ -8,17 +8,17 @@ use native.Mathlib.Decide.{ℕ-discrete}
 use native.Mathlib.Omega.{arith}
 use borrow.Author.Tests.{eq-eqb, ne-eqb}
 use lib.Dec.{eqb}
-use lib.ListN.{length, getD, take, drop}
-use lib.Seq.{getD-take, getD-drop}
+use lib.ListN.{length, getD}
 use Rattle.definition.specs.Refusal.{pick}
 use Rattle.plan_definition.specs.declared.Link.{Link}
 use Rattle.plan_definition.specs.declared.Well.{Well}
 use Rattle.plan_definition.specs.Some.{Among}
 use Rattle.plan_definition.specs.Some.Among.{here, later}
-use Rattle.plan_definition.specs.Well.{two, wellOf, wells}
+use Rattle.plan_definition.specs.Well.{wellOf, wells}
 use Rattle.plan_definition.specs.Rules.{producer, injector, used}
 use Rattle.plan_definition.specs.Sound.{KeepsLinkCount, KeepsLinks, KeepsRepeat, NamesInjector, Sound}
 use Rattle.plan_definition.proofs.Places.{wellAt, wells-at}
+use Rattle.plan_definition.proofs.Listed.{number-fits}
 use Rattle.plan_record.specs.Total.{wellIn}
 use Rattle.plan_record.proofs.Total.{well-read}
 use Rattle.plan_places.specs.Places.{placed}
@@ -48,14 +48,6 @@ pub record Given (n : ℕ) (sheet t : List ℕ) : Type 0 where
   pub sound : Sound (wells n sheet)
 
 module _ {n : ℕ} {sheet t : List ℕ} (g : Given n sheet t) where
-  -- a well's number is below 65,536
-  number-fits : (p : ℕ) → wellAt p sheet .number < 65536
-  unfolding wellOf two
-  number-fits p = omega (arith, byte 0 (omega arith), byte 1 (omega arith))
-    where
-      byte : (j : ℕ) → j < 40 → getD (take 40 (drop (40 * p) sheet)) j 0 < 256
-      byte j h = rw (getD-take 40 (drop (40 * p) sheet) j 0 h, getD-drop (40 * p) sheet j 0) (g .bytes (40 * p + j))
-
   -- wells at two places have two places
   apart : (p j : ℕ) → p < j → wellAt p sheet .place < wellAt j sheet .place
   unfolding wellOf
@@ -65,7 +57,7 @@ module _ {n : ℕ} {sheet t : List ℕ} (g : Given n sheet t) where
   pub found : (p : ℕ) → p < n → getD (placed sheet n t) (wellAt p sheet .number) 0 ≡ p
   unfolding Sound KeepsRepeat
   found p h =
-      rw (← reads p h) (placed-at sheet n t p h (omega (arith, g .few)) (rw (reads p h, g .long) (number-fits p))
+      rw (← reads p h) (placed-at sheet n t p h (omega (arith, g .few)) (rw (reads p h, g .long) (number-fits sheet (g .bytes) p))
       (λ j a l e. g .sound (wellAt j sheet) (there j l) .repeat (wellAt p sheet) (there p h) (apart p j a) (sym (rw (reads j l, reads p h) at e))))
     where
       reads : (j : ℕ) → j < n → wellIn sheet j ≡ wellAt j sheet

@@ -8,10 +8,11 @@ use Rattle.definition.specs.Refusal.{pick}
 use Rattle.plan_definition.specs.declared.Well.{Well}
 use Rattle.plan_definition.specs.Well.{wells}
 use Rattle.plan_definition.specs.Rules.{injector}
+use Rattle.plan_definition.specs.Check.{sound}
 use Rattle.plan_definition.proofs.Places.{left, left-all, left-step, left-none}
 use Rattle.brine_definition.specs.declared.Statement.{Statement}
 use Rattle.brine_definition.specs.Count.{sum, count}
-use Rattle.brine_definition.specs.Page.{Row, intakeFrom, spareOf, rowOf, rowWhen, sound, rows, rowIn}
+use Rattle.brine_definition.specs.Page.{Row, intakeFrom, spareOf, rowOf, rowWhen, rows, rowIn}
 use Rattle.brine_definition.specs.Said.{rowAt}
 use Rattle.brine_definition.specs.Statement.{page, intakes, spares, belowZero, statementOf}
 

@@ -5,8 +5,8 @@ use mathlib.Core.List.{List, [], _∷_}
 use lib.ListN.{length}
 use Rattle.definition.specs.Refusal.{firstOf, whenDone}
 use Rattle.plan_definition.specs.Well.{wells}
+use Rattle.plan_definition.specs.Check.{sound}
 use Rattle.plan_places.specs.Places.{placed}
-use Rattle.brine_definition.specs.Page.{sound}
 use Rattle.brine_definition.specs.Statement.{brineRefusals}
 
 unfoldable pub placedIf : Bool → (sheet : List ℕ) → (n : ℕ) → List ℕ → List ℕ

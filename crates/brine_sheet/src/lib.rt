@@ -9,8 +9,9 @@ ghost use lib.Seq.{slice};
 ghost use Rattle.definition.specs.Refusal.{pick, firstOf};
 ghost use Rattle.plan_definition.specs.Well.{wells};
 ghost use Rattle.plan_definition.specs.Rules.{injector};
+ghost use Rattle.plan_definition.specs.Check.{sound};
 ghost use Rattle.brine_definition.specs.Count.{sum};
-ghost use Rattle.brine_definition.specs.Page.{spareOf, rowWhen, saysSound, sound, rows};
+ghost use Rattle.brine_definition.specs.Page.{spareOf, rowWhen, rows};
 ghost use Rattle.brine_definition.specs.Statement.{intakes, spares, belowZero, statementOf, listRefusal, brineRefusals, brineOutcome};
 ghost use Rattle.plan_places.specs.Places.{placed};
 ghost use Rattle.brine_sheet.specs.Stated.{Stated};
@@ -21,7 +22,6 @@ use brine_definition::Statement;
 use plan_definition::INJECTOR;
 use plan_definition::Link;
 use plan_definition::PRODUCER;
-use plan_definition::Verdict;
 use plan_definition::Well;
 use refusals::DONE;
 
@@ -132,17 +132,6 @@ fn sound_sheet(
     settle(sheet, n, intake, spare)
 }
 
-// Whether the check of content found no fault.
-fn says_sound(v: Verdict) -> bool
-    ensures { λ r. ⌜ r ≡ saysSound v ⌝ }
-{
-    match v {
-        Verdict::Refused(_) => false,
-        Verdict::Sound => true,
-        Verdict::Fault(_, _) => false,
-    }
-}
-
 // A statement with no figures: of a refused call its number, of a faulted sheet that it is one.
 fn bare(number: u64, faulted: u64) -> Statement
     ensures { λ r. ⌜ r ≡ record { number = number; sound = 0; faulted = faulted; intake = 0; overloaded = 0 } ⌝ }
@@ -168,7 +157,7 @@ fn page(
     ensures { λ r. ⌜ Stated (wells n (now (sheet .entry))) r (now (intake .exit)) (now (spare .exit)) × (now (places .exit) ≡ placedIf (sound (wells n (now (sheet .entry)))) (now (sheet .entry)) n (now (places .entry))) ⌝ }
 {
     clear(intake, spare);
-    if says_sound(plan::check(sheet, n)) {
+    if plan::says_sound(plan::check(sheet, n)) {
         return sound_sheet(sheet, n, places, intake, spare);
     }
     bare(DONE as u64, 1)

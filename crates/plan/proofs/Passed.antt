@@ -12,7 +12,7 @@ use Rattle.plan_definition.specs.Rules.{injector, isInjectorOf, isBefore, rules
 use Rattle.plan_numbers.specs.Numbers.{has, plus}
 
 -- two numbers are put in either order
-either-first : (a b c : Bool) → (b || (a || c)) ≡ (a || b || c)
+pub either-first : (a b c : Bool) → (b || (a || c)) ≡ (a || b || c)
 either-first true true c = refl
 either-first true false c = refl
 either-first false b c = refl

@@ -5,7 +5,7 @@ ghost use Prim.Native.Nat.{_*_, _≤_};
 ghost use lib.ListN.{length};
 ghost use Rattle.plan_definition.specs.Well.{wells};
 ghost use Rattle.plan_definition.specs.Rules.{isInjectorOf, ruleNumber};
-ghost use Rattle.plan_definition.specs.Check.{ruleOf, firstFault, verdict, answerOf};
+ghost use Rattle.plan_definition.specs.Check.{ruleOf, firstFault, saysSound, verdict, answerOf};
 ghost use Rattle.plan_numbers.specs.Numbers.{has};
 ghost use Rattle.plan.specs.Sets.{plusInjectors};
 use plan_definition::ContentAnswer;
@@ -74,6 +74,17 @@ pub fn check(sheet: &[u8], n: usize) -> Verdict
     let mut injectors = [0u64; 1024];
     put_injectors(sheet, n, &mut injectors);
     first_broken(sheet, n, &injectors)
+}
+
+// Whether the check of content found no fault.
+pub fn says_sound(v: Verdict) -> bool
+    ensures { λ r. ⌜ r ≡ saysSound v ⌝ }
+{
+    match v {
+        Verdict::Refused(_) => false,
+        Verdict::Sound => true,
+        Verdict::Fault(_, _) => false,
+    }
 }
 
 // This paper's numbers of the rules.

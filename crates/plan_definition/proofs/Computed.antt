@@ -5,8 +5,8 @@ use Rattle.sheet_definition.specs.Run.{cut}
 use Rattle.plan_definition.specs.Some.{some}
 use Rattle.plan_definition.specs.Well.{two, four, linkAt, wellOf, wellsFrom, wells}
 use Rattle.plan_definition.specs.Rules.{producer, injector, used, unused, breaksNumber, breaksKind, differ, breaksLinkCount, breaksRate, namesSame, misnamed, breaksLinks, noShare, total, breaksShares, notZero, breaksUnusedLinks, breaksRepeat, isInjectorOf, isBefore, rulesBy, rulesAt}
-use Rattle.plan_definition.specs.Check.{ruleOf, foundAt, firstFault, checkRefusals, verdict}
+use Rattle.plan_definition.specs.Check.{ruleOf, foundAt, firstFault, saysSound, sound, checkRefusals, verdict}
 
 unfoldable pub everything : Unit {0}
-unfolding pick firstOf whenDone sheetRefusal cut some two four linkAt wellOf wellsFrom wells producer injector used unused breaksNumber breaksKind differ breaksLinkCount breaksRate namesSame misnamed breaksLinks noShare total breaksShares notZero breaksUnusedLinks breaksRepeat isInjectorOf isBefore rulesBy rulesAt ruleOf foundAt firstFault checkRefusals verdict
+unfolding pick firstOf whenDone sheetRefusal cut some two four linkAt wellOf wellsFrom wells producer injector used unused breaksNumber breaksKind differ breaksLinkCount breaksRate namesSame misnamed breaksLinks noShare total breaksShares notZero breaksUnusedLinks breaksRepeat isInjectorOf isBefore rulesBy rulesAt ruleOf foundAt firstFault saysSound sound checkRefusals verdict
 everything = tt

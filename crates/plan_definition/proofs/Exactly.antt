@@ -78,9 +78,12 @@ module _ {A B : Type 0} where
 
 -- a test of the elements of a list: that some passes, from where each does; and that none does, from where each fails
 module _ {A : Type 0} {f : A → Bool} {P : A → Type 0} (l : List A) where
+  pub one-of : ((a : A) → Among a l → Passes (f a) (P a)) → Passes (some f l) ((a : A) × Among a l × P a)
+  one-of h =
+      (λ e. let s = some-true f l .0 e in (s .0, s .1, h (s .0) (s .1) .0 (s .2)), λ s. some-true f l .1 (s .0, s .1, h (s .0) (s .1) .1 (s .2)))
+
   pub one-passes : ((a : A) → Passes (f a) (P a)) → Passes (some f l) ((a : A) × Among a l × P a)
-  one-passes h =
-      (λ e. let s = some-true f l .0 e in (s .0, s .1, h (s .0) .0 (s .2)), λ s. some-true f l .1 (s .0, s .1, h (s .0) .1 (s .2)))
+  one-passes h = one-of (λ a m. h a)
 
   pub none-passes : ((a : A) → Fails (f a) (P a)) → Fails (some f l) ((a : A) → Among a l → P a)
   none-passes h = (λ e a m. h a .0 (some-false f l .0 e a m), λ k. some-false f l .1 (λ a m. h a .1 (k a m)))

@@ -3,9 +3,13 @@ pub mod Some
 pub mod Exactly
 pub mod Kept
 pub mod Ranked
+pub mod Links
+pub mod Given
 pub mod Places
+pub mod Listed
 pub mod Faults
 pub mod Verdicts
+pub mod Tested
 pub mod Elsewhere
 pub mod Determined
 pub mod Computed

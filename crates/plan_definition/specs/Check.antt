@@ -1,5 +1,6 @@
 -- The check of content: document 02, Q-1. "The check says sound, or gives the lowest faulty place with the first broken rule."
 use Prim.Native.Nat.{ℕ, zero, suc}
+use mathlib.Core.Bool.{Bool, true, false}
 use mathlib.Core.List.{List, [], _∷_}
 use lib.ListN.{length, getD}
 use Rattle.definition.specs.Refusal.{Refusal, firstOf, whenDone}
@@ -26,6 +27,15 @@ foundAt (suc k) place rest = Fault (ruleOf (suc k)) place
 unfoldable pub firstFault : (all some : List Well) → Verdict
 firstFault all [] = Sound
 firstFault all (w ∷ ws) = foundAt (firstOf (rulesAt all w)) (w .place) (firstFault all ws)
+
+-- whether Q-1 faults a sheet, as the requests that stand on it ask
+unfoldable pub saysSound : Verdict → Bool
+saysSound (Refused number) = false
+saysSound Sound = true
+saysSound (Fault rule place) = false
+
+unfoldable pub sound : List Well → Bool
+sound ws = saysSound (firstFault ws ws)
 
 -- "Refusals: 5 only"
 unfoldable pub checkRefusals : (n sheet : ℕ) → List Refusal

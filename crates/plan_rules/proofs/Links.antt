@@ -1,24 +1,15 @@
 -- Going through links from one to another, link by link: what is left decides.
 -- Assumes nothing.
-use mathlib.Core.Path.{_≡_, sym, ap}
+use mathlib.Core.Path.{_≡_, ap}
 use mathlib.Core.Bool.{Bool, not, _||_}
-use mathlib.Core.List.{List, []}
+use mathlib.Core.List.{List}
 use Prim.Native.Nat.{ℕ, suc, _+_, _<_, _≤_}
 use lib.ListN.{length, getD}
-use lib.Seq.{slice, slice-empty, slice-cons}
+use lib.Seq.{slice, slice-cons}
 use Rattle.plan_definition.specs.declared.Link.{Link}
 use Rattle.plan_definition.specs.Some.{some}
 use Rattle.plan_definition.specs.Well.{noLink}
 use Rattle.plan_definition.specs.Rules.{namesSame, misnamed, total}
-
--- at the end none are left
-pub none-left : {A : Type 0} (f : List Link → A) (k t : ℕ) (ls : List Link) → k ≡ t → f [] ≡ f (slice k t ls)
-none-left f k t ls e = rw e (ap f (sym (slice-empty t ls)))
-
-pub some-left : (f : Link → Bool) (k t : ℕ) (ls : List Link) → k < t → t ≤ length ls
-    → some f (slice k t ls) ≡ f (getD ls k noLink) || some f (slice (suc k) t ls)
-unfolding some
-some-left f k t ls h g = ap (some f) (slice-cons k t ls noLink h g)
 
 pub total-left : (k t : ℕ) (ls : List Link) → k < t → t ≤ length ls
     → total (slice k t ls) ≡ getD ls k noLink .share + total (slice (suc k) t ls)

@@ -6,10 +6,12 @@ use borrow.Author.Needs.{needs}
 use lib.ListN.{length, length-replicate, replicate}
 use lib.IntN.{pos}
 use Rattle.plan_definition.specs.Well.{wells}
-use Rattle.brine_definition.specs.Page.{sound}
-use Rattle.brine_definition.proofs.Sound.{faulted-intakes, faulted-spares, length-wells}
+use Rattle.plan_definition.specs.Check.{sound}
+use Rattle.plan_definition.proofs.Listed.{length-wells}
+use Rattle.plan_definition.proofs.Tested.{says}
+use Rattle.brine_definition.proofs.Sound.{faulted-intakes, faulted-spares}
 use Rattle.brine_sheet.specs.Table.{placedIf}
-use Rattle.brine_sheet.proofs.Alone.{says, faulted-alone}
+use Rattle.brine_sheet.proofs.Alone.{faulted-alone}
 use Rattle.brine_sheet.proofs.page.Statement.{statement}
 use Rattle.brine_sheet.proofs.page.Tie as tie
 

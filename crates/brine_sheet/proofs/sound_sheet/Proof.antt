@@ -6,9 +6,9 @@ use denote.Ref.{now}
 use borrow.Author.Needs.{needs}
 use lib.ListN.{length, length-replicate}
 use Rattle.plan_definition.specs.Well.{wells}
+use Rattle.plan_definition.proofs.Tested.{sound-tested}
 use Rattle.brine_definition.specs.Page.{rows}
 use Rattle.brine_definition.specs.Statement.{intakes}
-use Rattle.brine_definition.proofs.Sound.{sound-exactly}
 use Rattle.brine_definition.proofs.Conserved.{sheet-most}
 use Rattle.brine_sheet.proofs.Found.{Given, all-named}
 use Rattle.brine_sheet.proofs.Columns.{sends-fit, sent-intakes}
@@ -27,7 +27,7 @@ given c =
       room = s .pre .1;
       bytes = λ i. omega (arith, c .before .before .before .shared-slice-known .given i);
       long = c .put .ensures .1;
-      sound = sound-exactly (wells (s .args .n) (now (s .args .sheet))) .0 (s .pre .2);
+      sound = sound-tested (wells (s .args .n) (now (s .args .sheet))) .0 (s .pre .2);
     }
 
 -- the intakes are zeros, one for each record

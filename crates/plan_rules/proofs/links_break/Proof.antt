@@ -13,8 +13,9 @@ use lib.Seq.{slice}
 use Rattle.plan_definition.specs.Some.{some}
 use Rattle.plan_definition.specs.Well.{noLink}
 use Rattle.plan_definition.specs.Rules.{namesSame, misnamed}
+use Rattle.plan_definition.proofs.Links.{none-left}
 use Rattle.plan_numbers.specs.Numbers.{has}
-use Rattle.plan_rules.proofs.Links.{none-left, misnamed-left}
+use Rattle.plan_rules.proofs.Links.{misnamed-left}
 use Rattle.plan_rules.proofs.links_break.Statement.{statement}
 use Rattle.plan_rules.proofs.links_break.Tie as tie
 

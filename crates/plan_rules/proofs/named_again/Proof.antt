@@ -13,7 +13,7 @@ use lib.Seq.{slice}
 use Rattle.plan_definition.specs.Some.{some}
 use Rattle.plan_definition.specs.Well.{noLink}
 use Rattle.plan_definition.specs.Rules.{namesSame}
-use Rattle.plan_rules.proofs.Links.{none-left, some-left}
+use Rattle.plan_definition.proofs.Links.{none-left, some-left}
 use Rattle.plan_rules.proofs.named_again.Statement.{statement}
 use Rattle.plan_rules.proofs.named_again.Tie as tie
 

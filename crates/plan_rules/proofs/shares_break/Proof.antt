@@ -13,8 +13,9 @@ use lib.Seq.{slice}
 use Rattle.plan_definition.specs.Some.{some}
 use Rattle.plan_definition.specs.Well.{noLink}
 use Rattle.plan_definition.specs.Rules.{noShare, total}
+use Rattle.plan_definition.proofs.Links.{none-left, some-left}
 use Rattle.plan_rules.specs.Parts.{misshared}
-use Rattle.plan_rules.proofs.Links.{none-left, some-left, total-left}
+use Rattle.plan_rules.proofs.Links.{total-left}
 use Rattle.plan_rules.proofs.shares_break.Statement.{statement}
 use Rattle.plan_rules.proofs.shares_break.Tie as tie
 

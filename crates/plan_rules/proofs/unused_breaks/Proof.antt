@@ -13,7 +13,7 @@ use lib.Seq.{take-all, slice}
 use Rattle.plan_definition.specs.Some.{some}
 use Rattle.plan_definition.specs.Well.{noLink}
 use Rattle.plan_definition.specs.Rules.{notZero}
-use Rattle.plan_rules.proofs.Links.{none-left, some-left}
+use Rattle.plan_definition.proofs.Links.{none-left, some-left}
 use Rattle.plan_rules.proofs.unused_breaks.Statement.{statement}
 use Rattle.plan_rules.proofs.unused_breaks.Tie as tie
 

@@ -1,10 +1,10 @@
--- `brine_sheet::says_sound` meets its contract, case by case.
+-- `plan::says_sound` meets its contract, case by case.
 -- Assumes nothing.
 use mathlib.Core.Path.{sym, ap}
 use borrow.Author.Needs.{needs}
-use Rattle.brine_definition.specs.Page.{saysSound}
-use Rattle.brine_sheet.proofs.says_sound.Statement.{statement}
-use Rattle.brine_sheet.proofs.says_sound.Tie as tie
+use Rattle.plan_definition.specs.Check.{saysSound}
+use Rattle.plan.proofs.says_sound.Statement.{statement}
+use Rattle.plan.proofs.says_sound.Tie as tie
 
 returns : tie.Need-returns
 unfolding saysSound
