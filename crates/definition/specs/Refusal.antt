@@ -43,8 +43,8 @@ CLAIM = 10
 abbrev pub STALE : ℕ
 STALE = 11
 
--- and document 02's: of longer output, Q-2, of the brine statement, Q-3, of many changes in one save, Q-4, of a planner's own marks, Q-6, and of odd
--- bits, Q-7
+-- and document 02's: of longer output, Q-2, of the brine statement, Q-3, of many changes in one save, Q-4, of a planner's own marks, Q-6, of odd
+-- bits, Q-7, and of who depends on a well, Q-10
 abbrev pub WORDS : ℕ
 WORDS = 12
 
@@ -62,6 +62,18 @@ STALE-TAIL = 16
 
 abbrev pub ODD : ℕ
 ODD = 17
+
+abbrev pub HOPS : ℕ
+HOPS = 19
+
+abbrev pub UNSOUND : ℕ
+UNSOUND = 20
+
+abbrev pub WELL : ℕ
+WELL = 21
+
+abbrev pub REACH : ℕ
+REACH = 22
 
 abbrev pub LIST : ℕ
 LIST = 25

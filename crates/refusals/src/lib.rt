@@ -41,6 +41,14 @@ pub const STALE_TAIL: u32 = 16;
 
 pub const ODD: u32 = 17;
 
+pub const HOPS: u32 = 19;
+
+pub const UNSOUND: u32 = 20;
+
+pub const WELL: u32 = 21;
+
+pub const REACH: u32 = 22;
+
 pub const LIST: u32 = 25;
 
 // A refusal judged: its number where its condition holds, else 0.

@@ -1,0 +1,41 @@
+-- The hypotheses of the laws of who depends on a well can be met: in the line of the examples, from its end with two hops.
+-- Assumes nothing.
+use mathlib.Core.Path.{_≡_, refl}
+use mathlib.Core.List.{List}
+use Prim.Native.Nat.{ℕ}
+use native.Mathlib.Omega.{arith}
+use lib.ListN.{replicate}
+use Rattle.definition.specs.Buffer.{joined}
+use Rattle.plan_definition.specs.Well.{wells}
+use Rattle.plan_definition.proofs.Places.{wellAt}
+use Rattle.reach_definition.specs.Chain.{Joined}
+use Rattle.reach_definition.proofs.Outcomes.{given}
+use Rattle.reach_definition.proofs.Marked.{byteAfter, named-well, marked-exactly, more-hops, both-ways}
+use Rattle.reach_definition.proofs.Examples.{row}
+use Rattle.reach_definition.proofs.Computed.{everything}
+
+abbrev pub sheet : List ℕ
+sheet = joined row
+
+pub line-accepted : given sheet 5 1 2 (replicate 5 9) ≡ 0
+unfolding everything joined
+line-accepted = refl
+
+-- producer 3, at place 0, is marked
+marked : byteAfter sheet 5 1 2 (replicate 5 9) 0 ≡ 1
+unfolding everything joined
+marked = refl
+
+-- so two links join it to producer 1: marked-exactly
+pub joined-by-two : Joined (wells 5 sheet) 2 (named-well sheet 5 1 2 (replicate 5 9) line-accepted .well) (wellAt 0 sheet)
+joined-by-two =
+    marked-exactly sheet 5 1 2 (replicate 5 9) line-accepted 0 (omega arith) (named-well sheet 5 1 2 (replicate 5 9) line-accepted) .0 marked
+
+-- with a hop more it is marked still: more-hops
+pub marked-still : byteAfter sheet 5 1 3 (replicate 5 9) 0 ≡ 1
+marked-still = more-hops sheet 5 1 2 3 (replicate 5 9) (omega arith) (omega arith) line-accepted 0 (omega arith) marked
+
+-- and marks producer 1, at place 3, back: both-ways
+pub marked-back : byteAfter sheet 5 3 2 (replicate 5 9) 3 ≡ 1
+unfolding everything joined
+marked-back = both-ways sheet 5 2 (replicate 5 9) 3 0 (omega arith) (omega arith) refl refl .1
