@@ -11,6 +11,7 @@ ghost use Rattle.sheet_definition.specs.Own.{locatedAnswer};
 ghost use Rattle.mend_definition.specs.Mend.{mendOutcome, mendAnswer};
 ghost use Rattle.plan_definition.specs.Check.{verdict, answerOf};
 ghost use Rattle.brine_definition.specs.Statement.{brineOutcome};
+ghost use Rattle.reach_definition.specs.Reach.{reachOutcome};
 use brine_definition::Statement;
 use hash_definition::Kept;
 use hash_definition::OutputAnswer;
@@ -349,4 +350,18 @@ pub extern "C" fn luffa_plan_brine(
     ensures { λ r. ⌜ record { answer = r; intake = now (intake .exit); spare = now (spare .exit) } ≡ brineOutcome (now (sheets .entry)) (now (counts .entry)) (now (intake .entry)) (now (spare .entry)) ⌝ }
 {
     brine::statement(sheets, counts, intake, spare)
+}
+
+// Who depends on a well: the records that so many hops reach.
+#[no_mangle]
+pub extern "C" fn luffa_plan_reach(
+    sheet: &[u8],
+    n: usize,
+    well: usize,
+    hops: usize,
+    reached: &mut [u8],
+) -> u32
+    ensures { λ r. ⌜ record { number = r; reached = now (reached .exit) } ≡ reachOutcome (now (sheet .entry)) n well hops (now (reached .entry)) ⌝ }
+{
+    reach::reach(sheet, n, well, hops, reached)
 }
