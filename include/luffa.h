@@ -1,7 +1,8 @@
 /*
  * luffa.h: Luffa digests (Luffa specification 2.0.1) of 224, 256, 384 and 512 bits, in one call or
  * piece by piece, of messages that may stop inside a byte, with longer output where it is wanted, a sheet
- * of records that is saved under its digest, and a check of what its records mean.
+ * of records that is saved under its digest, and what its records mean: whether they are sound, what they
+ * send, and who depends on whom.
  *
  * Every call answers a number: LUFFA_DONE, or the first refusal that holds, in the order listed at
  * the call. A refused call has altered nothing, so look at the answer before you use a buffer. The
@@ -65,6 +66,11 @@ extern "C" {
 #define LUFFA_LIST 25  /* a list has fewer places than the batch has records */
 /* 17 is given by the calls that take odd bits, or a piece for a record. */
 #define LUFFA_ODD 17   /* no message has these odd bits, or it has ended with odd bits already */
+/* 19 to 22 are given by luffa_plan_reach. */
+#define LUFFA_HOPS 19    /* more hops than LUFFA_HOPS_MOST */
+#define LUFFA_UNSOUND 20 /* luffa_plan_check faults the sheet */
+#define LUFFA_WELL 21    /* no record of the sheet has this number */
+#define LUFFA_REACH 22   /* fewer bytes to mark than the sheet has records */
 
 /*
  * The digest of a whole message, in the first bytes of out. The bytes after it stay as they were.
@@ -520,7 +526,8 @@ struct luffa_content_answer {
  * Whether the n records of a sheet are sound, or else the lowest faulty place and the first rule that
  * is broken there. A sheet of no records is sound. Nothing is written; notes and what lies behind the
  * n-th record don't matter. The time is a fixed part and so much a record, however many there are. The
- * call takes up to 17 KiB of stack, luffa_plan_brine up to 160 KiB, every other one up to 4 KiB.
+ * call takes up to 17 KiB of stack, luffa_plan_reach up to 32 KiB, luffa_plan_brine up to 160 KiB, every
+ * other one up to 4 KiB.
  *   5 LUFFA_SHEET   n is over LUFFA_SHEET_MOST, or sheet_len is less than 40n
  */
 struct luffa_content_answer luffa_plan_check(const uint8_t *sheet, size_t sheet_len, size_t n);
@@ -556,6 +563,27 @@ struct luffa_brine_answer luffa_plan_brine(const uint8_t *sheets, size_t sheets_
                                            const size_t *counts, size_t counts_len,
                                            uint64_t *intake, size_t intake_len,
                                            int64_t *spare, size_t spare_len);
+
+/*
+ * Who depends on a well. A link joins its producer and the injector that it names: the producer reaches the
+ * injectors that it links, an injector the producers that link it. From the record whose number is `well`,
+ * reached[p] is 1 where a chain of at most `hops` links joins the record at place p, else 0, for each of the
+ * n records; the bytes after stay as they were. A chain of no link joins the well to itself, so at 0 hops it
+ * alone is reached. What is reached at some hops is reached at more, and reaches the well at as many.
+ */
+#define LUFFA_HOPS_MOST 3
+
+/*
+ * The time is a fixed part and so much a record, however many there are. The call takes up to 32 KiB of stack.
+ *   5 LUFFA_SHEET    n is over LUFFA_SHEET_MOST, or sheet_len is less than 40n
+ *  19 LUFFA_HOPS     hops is over LUFFA_HOPS_MOST
+ *  20 LUFFA_UNSOUND  luffa_plan_check faults the sheet of n records
+ *  21 LUFFA_WELL     no record of the sheet has the number `well`, which is judged whole: 65,539 isn't 3, and
+ *                    none has 0
+ *  22 LUFFA_REACH    reached_len is less than n
+ */
+uint32_t luffa_plan_reach(const uint8_t *sheet, size_t sheet_len, size_t n, size_t well, size_t hops,
+                          uint8_t *reached, size_t reached_len);
 
 #ifdef __cplusplus
 }

@@ -18,6 +18,7 @@ HOLDS(LUFFA_CLAIM == 10 && LUFFA_STALE == 11 && LUFFA_BATCH == 13 && LUFFA_LIST 
 HOLDS(LUFFA_ODD == 17 && LUFFA_WORDS == 12 && LUFFA_WORDS_MOST == 64);
 HOLDS(LUFFA_SET == 14 && LUFFA_CHANGES_MOST == 64);
 HOLDS(LUFFA_OWN == 15 && LUFFA_STALE_TAIL == 16 && LUFFA_WHERE_SAME == 0 && LUFFA_WHERE_GROUP == 1);
+HOLDS(LUFFA_HOPS == 19 && LUFFA_UNSOUND == 20 && LUFFA_WELL == 21 && LUFFA_REACH == 22 && LUFFA_HOPS_MOST == 3);
 HOLDS(LUFFA_SHEET_MOST == 1024 && LUFFA_SHEET_RECORD_BYTES == 40 && LUFFA_MARK_WORDS == 40);
 HOLDS(LUFFA_MARKS_FOR(0) == 40 && LUFFA_MARKS_FOR(3) == 40 && LUFFA_MARKS_FOR(4) == 80);
 HOLDS(LUFFA_MARKS_FOR(LUFFA_SHEET_MOST) == 10280 && LUFFA_MARKS_FOR(1 + 2) == 40);
@@ -94,6 +95,8 @@ static struct luffa_mend_answer (*const mend)(size_t, const uint8_t *, size_t, s
 static struct luffa_content_answer (*const plan_check)(const uint8_t *, size_t, size_t) = luffa_plan_check;
 static struct luffa_brine_answer (*const plan_brine)(const uint8_t *, size_t, const size_t *, size_t, uint64_t *,
                                                      size_t, int64_t *, size_t) = luffa_plan_brine;
+static uint32_t (*const plan_reach)(const uint8_t *, size_t, size_t, size_t, size_t, uint8_t *,
+                                    size_t) = luffa_plan_reach;
 
 int main(void)
 {
@@ -136,5 +139,6 @@ int main(void)
                     LUFFA_MARKS_FOR(0), claim, sizeof claim).count != 0 ||
            mend(LUFFA_384, NULL, 0, 0, marks, LUFFA_MARKS_FOR(0)).wrong != 1 ||
            plan_check(sheet, sizeof sheet, 1).rule != LUFFA_RULE_NUMBER ||
-           plan_brine(sheet, sizeof sheet, counts, 2, intake, 1, spare, 1).faulted != 1;
+           plan_brine(sheet, sizeof sheet, counts, 2, intake, 1, spare, 1).faulted != 1 ||
+           plan_reach(sheet, sizeof sheet, 1, 1, LUFFA_HOPS_MOST, out, sizeof out) != LUFFA_UNSOUND;
 }
