@@ -110,12 +110,6 @@ static const struct {
 };
 enum { SMALL_INTAKE = 165537000, SMALL_OVERLOADED = 3 };
 
-/* A fault for each rule, in their order. All of them leave something sent. */
-static const struct edit faults[] = {
-    {2, NUMBER, 0}, {2, KIND, 3}, {2, RATE, 1}, {4, RATE, 100001}, {0, INJECTOR(1), 23}, {5, SHARE(0), 999},
-    {8, SHARE(3), 1}, {2, NUMBER, 10},
-};
-
 static void small_sheet(const struct edit *fault)
 {
     size_t start = records;

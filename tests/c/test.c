@@ -119,15 +119,20 @@ static uint8_t *lend_aligned(struct lent *l, const uint8_t *bytes, size_t n, siz
 
 static uint8_t *lend(struct lent *l, const uint8_t *bytes, size_t n) { return lend_aligned(l, bytes, n, 1); }
 
-/* Words, the last of which may be hidden: these stand on the page after the room. */
+/* Against the page after the room: what is lent behind them stands there, and nobody may touch it. */
+static uint8_t *lend_last(struct lent *l, const uint8_t *bytes, size_t n)
+{
+    make_room(l, n);
+    return lend_at(l, l->room + l->size - n, bytes, n);
+}
+
+/* Words, the last of which may be hidden. */
 static uint32_t *lend_words(struct lent *l, const uint32_t *words, size_t n, size_t hidden)
 {
     size_t bytes = 4 * (n - hidden);
 
-    if (hidden == 0)
-        return (void *)lend_aligned(l, (const uint8_t *)words, bytes, 4);
-    make_room(l, bytes);
-    return (void *)lend_at(l, l->room + l->size - bytes, (const uint8_t *)words, bytes);
+    return hidden == 0 ? (void *)lend_aligned(l, (const uint8_t *)words, bytes, 4)
+                       : (void *)lend_last(l, (const uint8_t *)words, bytes);
 }
 
 /* Says what may be done with the pages of n bytes. */
@@ -929,6 +934,11 @@ void sound_sheet(uint8_t *sheet)
     put_well(sheet, 8, LUFFA_INJECTOR, 256 * 20, 0);
 }
 
+const struct edit faults[8] = {
+    {2, NUMBER, 0}, {2, KIND, 3}, {2, RATE, 1}, {4, RATE, 100001}, {0, INJECTOR(1), 23}, {5, SHARE(0), 999},
+    {8, SHARE(3), 1}, {2, NUMBER, 10},
+};
+
 void plan_call(struct luffa_content_answer want, const uint8_t *sheet, size_t sheet_len, size_t n)
 {
     static struct lent l;
@@ -970,4 +980,34 @@ void brine_call(struct luffa_brine_answer want, const struct batch *b)
     check(kept(&in_sheets, 0) && kept(&in_counts, 0) && kept(&in_intake, 8 * records) && kept(&in_spare, 8 * records),
           "brine of %zu sheets in %zu bytes, lists of %zu and %zu, answer %u: wrote outside its places", b->counts_len,
           b->sheets_len, b->intake_len, b->spare_len, (unsigned)got.number);
+}
+
+/* Where done, the bytes after the marks are hidden in every other call. In one of 32 the sheet can't be written, and
+   where refused the marks can't either. */
+void reach_call(uint32_t want, const struct search *s, const uint8_t *marks)
+{
+    static struct lent in_sheet, in_reached;
+    size_t written = want == LUFFA_DONE ? s->n : 0;
+    int sealed = any_byte() % 32 == 0, hidden = want == LUFFA_DONE && any_byte() % 2 == 0;
+    uint8_t *sheet = lend(&in_sheet, s->sheet, s->sheet_len);
+    uint8_t *reached = hidden ? lend_last(&in_reached, NULL, s->n) : lend(&in_reached, NULL, s->reached_len);
+
+    if (sealed)
+        protect(in_sheet.room, in_sheet.size, PROT_READ);
+    if (sealed && want != LUFFA_DONE)
+        protect(in_reached.room, in_reached.size, PROT_READ);
+    uint32_t got = luffa_plan_reach(sheet, s->sheet_len, s->n, s->well, s->hops, reached, s->reached_len);
+    if (sealed) {
+        protect(in_sheet.room, in_sheet.size, PROT_READ | PROT_WRITE);
+        protect(in_reached.room, in_reached.size, PROT_READ | PROT_WRITE);
+    }
+
+    check(got == want, "reach from well %zu in %zu hops, of %zu records in %zu bytes, into %zu: answered %u, wanted %u",
+          s->well, s->hops, s->n, s->sheet_len, s->reached_len, got, want);
+    for (size_t p = 0; p < written; p++)
+        check(reached[p] == marks[p], "reach from well %zu in %zu hops, of %zu records: place %zu has %u, wanted %u",
+              s->well, s->hops, s->n, p, reached[p], marks[p]);
+    check(kept(&in_sheet, 0) && kept(&in_reached, written),
+          "reach from well %zu in %zu hops, of %zu records into %zu bytes, answer %u: wrote outside its marks", s->well,
+          s->hops, s->n, s->reached_len, got);
 }

@@ -204,6 +204,9 @@ void add_link(uint8_t *sheet, size_t place, uint32_t injector, uint32_t share);
 enum { WELLS = 9 };
 void sound_sheet(uint8_t *sheet);
 
+/* A fault of it for each rule, in their order. All of them leave something sent. */
+extern const struct edit faults[8];
+
 /* The check of what the first n records mean, which writes nothing. */
 void plan_call(struct luffa_content_answer want, const uint8_t *sheet, size_t sheet_len, size_t n);
 
@@ -222,5 +225,15 @@ struct batch {
 /* Has the page drawn up in lists of any numbers. What is written must be the figures, a place of each
    list for each record; refused, nothing may be. */
 void brine_call(struct luffa_brine_answer want, const struct batch *b);
+
+/* All that a search for who depends on a well is given but the buffer, of which there is the length. */
+struct search {
+    const uint8_t *sheet;
+    size_t sheet_len, n, well, hops, reached_len;
+};
+
+/* Has the records reached marked in a buffer of any bytes. Where done, the first n must be these marks; refused,
+   nothing may be written. */
+void reach_call(uint32_t want, const struct search *s, const uint8_t *marks);
 
 #endif

@@ -153,6 +153,27 @@ static void brine(uint8_t *sheets)
     munmap(spare, bytes);
 }
 
+/* Marks in wide buffers, whose lengths would be too short once they are cut; and a wide number of records, of hops or
+   of a well, each of which would do once it is. */
+static void reach(uint8_t *sheet, uint8_t *reached)
+{
+    static const uint8_t marks[WELLS] = {1, 1, 0, 1, 1}; /* two hops from producer 10 */
+
+    sound_sheet(sheet);
+    for (size_t more = 0; more < WELLS; more++) {
+        check(luffa_plan_reach(sheet, WIDE + more, WELLS, 10, 2, reached, WIDE + more) == LUFFA_DONE &&
+                  holds(reached, marks, WELLS),
+              "reach in wide buffers");
+        memset(reached, 0, WELLS);
+        check(luffa_plan_reach(sheet, WIDE, WIDE + more, 10, 2, reached, WIDE) == LUFFA_SHEET &&
+                  luffa_plan_reach(sheet, WIDE, WELLS, 10, WIDE + more, reached, WIDE) == LUFFA_HOPS &&
+                  luffa_plan_reach(sheet, WIDE, WELLS, WIDE * (more + 1) + 10, 2, reached, WIDE) == LUFFA_WELL &&
+                  holds(reached, marks, 0),
+              "reach of a wide number");
+    }
+    memset(sheet, 0, RECORD * WELLS);
+}
+
 /* As many changes as make none, one or the most once they are cut. */
 static void batches(void)
 {
@@ -281,6 +302,7 @@ int main(void)
     uint8_t *mapped = map(WIDE + 65536), *out = map(WIDE + 65536);
 
     brine(mapped);
+    reach(mapped, out);
     batches();
     owns();
     uint32_t *marks = (void *)map(4 * WIDE + 65536);
