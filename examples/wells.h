@@ -1,4 +1,4 @@
-/* A well, written into its bytes of a sheet. For the examples of what sheets mean. */
+/* A well, written into its bytes of a sheet, and its number. For the examples of what sheets mean. */
 #ifndef WELLS_H
 #define WELLS_H
 
@@ -26,6 +26,11 @@ static inline void add_link(uint8_t *well, uint32_t injector, uint32_t share)
 
     put(well + LUFFA_LINK_INJECTOR(k), 2, injector);
     put(well + LUFFA_LINK_SHARE(k), 2, share);
+}
+
+static inline unsigned number_of(const uint8_t *well)
+{
+    return 256u * well[LUFFA_WELL_NUMBER] + well[LUFFA_WELL_NUMBER + 1];
 }
 
 #endif

@@ -42,11 +42,9 @@ static void show_sheet(unsigned sheet, size_t first, size_t n)
         return;
     }
     for (size_t p = first; p < first + n; p++)
-        if (well(p)[LUFFA_WELL_KIND] == LUFFA_INJECTOR) {
-            const uint8_t *number = well(p) + LUFFA_WELL_NUMBER;
-            printf("%5u  %8u  %16" PRIu64 "  %15" PRId64 "%s\n", sheet, 256u * number[0] + number[1], intake[p],
-                   spare[p], spare[p] < 0 ? "  overloaded" : "");
-        }
+        if (well(p)[LUFFA_WELL_KIND] == LUFFA_INJECTOR)
+            printf("%5u  %8u  %16" PRIu64 "  %15" PRId64 "%s\n", sheet, number_of(well(p)), intake[p], spare[p],
+                   spare[p] < 0 ? "  overloaded" : "");
 }
 
 int main(void)
