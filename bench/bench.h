@@ -79,13 +79,15 @@ void owns(const uint8_t *message);
 
 /* -- What sheets mean (plans.c) -- */
 
-enum { PLANS_COUNT = 2, SIZES_MOST = 4 };
+enum { PLANS_COUNT = 3, SIZES_MOST = 4 };
 
-/* A call on batches of so many sheets of so many wells each, with the calls in one timing; the bar stands at the last, beside the digest of
-   the same bytes. */
+/* A call on batches of so many sheets of so many wells each, with the calls in one timing, beside another thing that is done with the same, in
+   words too; the bar stands at the last. */
 extern const struct plan {
     const char *name, *call;
     work *run;
+    const char *other;
+    work *beside;
     double bar;
     unsigned timings;
     size_t count;
@@ -97,6 +99,12 @@ extern const struct plan {
 
 int check_plans(void);
 void plans(void);
+
+/* -- Who depends on a well (reach.c) -- */
+
+int reach_is_right(size_t sound, struct batch *b);
+int check_starts(void);
+void starts(void);
 
 /* -- The stack (stack.c) -- */
 

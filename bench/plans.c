@@ -1,13 +1,20 @@
-/* What sheets mean: the check of content and the brine statement, what they answer on the sheets that are measured, and their cycles. */
+/* What sheets mean: the check of content, the brine statement and the search for who depends on a well, what they answer on the sheets that are
+   measured, and their cycles. */
 #include "bench.h"
 #include "wells.h"
 
 #include <stdio.h>
 
+static const char DIGEST[] = "the digest of the same bytes at code 2", CHECK[] = "the check of the same sheet";
+
 /* The last two of each have 128 and 1,024 wells a sheet, and a record of one is compared with the other's. */
 const struct plan PLANS[PLANS_COUNT] = {
-    {"Check of content", "luffa_plan_check", archive_plan_check, 0.5, 400, 4, {{1, 1, 200}, {1, 16, 100}, {1, 128, 20}, {1, SHEET_MOST, 4}}},
-    {"Brine statement", "luffa_plan_brine", archive_plan_brine, 1.5, 100, 3, {{1, 1, 200}, {64, 128, 1}, {64, SHEET_MOST, 1}}},
+    {"Check of content", "luffa_plan_check", archive_plan_check, DIGEST, archive_digest, 0.5, 400, 4,
+     {{1, 1, 200}, {1, 16, 100}, {1, 128, 20}, {1, SHEET_MOST, 4}}},
+    {"Brine statement", "luffa_plan_brine", archive_plan_brine, DIGEST, archive_digest, 1.5, 100, 3,
+     {{1, 1, 200}, {64, 128, 1}, {64, SHEET_MOST, 1}}},
+    {"Who depends on a well, three hops", "luffa_plan_reach", archive_plan_reach, CHECK, archive_plan_check, 3, 400, 4,
+     {{1, 1, 200}, {1, 16, 100}, {1, 128, 20}, {1, SHEET_MOST, 4}}},
 };
 
 /* -- What they answer: all sheets are sound, or all but the last, whose last well has a rate that is too high -- */
@@ -49,7 +56,7 @@ static int page_is_right(size_t sound, struct batch *b)
 
 int check_plans(void)
 {
-    static int (*const RIGHT[PLANS_COUNT])(size_t sound, struct batch *b) = {check_is_right, page_is_right};
+    static int (*const RIGHT[PLANS_COUNT])(size_t sound, struct batch *b) = {check_is_right, page_is_right, reach_is_right};
     static struct batch batch;
 
     for (size_t i = 0; i < PLANS_COUNT; i++) {
@@ -69,31 +76,31 @@ int check_plans(void)
 
 /* -- The timing -- */
 
-/* A call against the digest of the same bytes. The batches take turns too, as the cycles a record of one are compared with another's. */
+/* A call against another on the same. The batches take turns too, as the cycles a record of one are compared with another's. */
 static void plan_table(const struct plan *plan)
 {
     static const double BAR_RECORD = 1.5;
     static struct batch batches[SIZES_MOST];
     struct job jobs[SIZES_MOST];
-    double call[SIZES_MOST], digest[SIZES_MOST];
+    double call[SIZES_MOST], other[SIZES_MOST];
     size_t last = plan->count - 1;
 
     for (size_t k = 0; k <= last; k++) {
         jobs[k] = batch_job(&batches[k], plan->sizes[k].sheets, plan->sizes[k].n);
-        call[k] = digest[k] = DBL_MAX;
+        call[k] = other[k] = DBL_MAX;
     }
     for (unsigned i = 0; i < plan->timings; i++)
         for (size_t k = 0; k <= last; k++) {
             better(plan->run, &jobs[k], plan->sizes[k].calls, &call[k]);
-            better(archive_digest, &jobs[k], plan->sizes[k].calls, &digest[k]);
+            better(plan->beside, &jobs[k], plan->sizes[k].calls, &other[k]);
         }
 
-    printf("\n%s, cycles per call, beside the digest of the same bytes at code 2, best timing of each, taken in turns\n\n", plan->name);
-    printf("sheets   records each      call   a record    digest     ratio\n");
+    printf("\n%s, cycles per call, beside %s, best timing of each, taken in turns\n\n", plan->name, plan->other);
+    printf("sheets   records each      call   a record    beside     ratio\n");
     for (size_t k = 0; k <= last; k++) {
-        double bytes = (double)jobs[k].len, ratio = call[k] / digest[k];
+        double bytes = (double)jobs[k].len, ratio = call[k] / other[k];
         printf("%6zu %14zu %9.0f %10.1f %9.0f %9.3f", plan->sizes[k].sheets, plan->sizes[k].n, call[k] * bytes, call[k] * SHEET_RECORD,
-               digest[k] * bytes, ratio);
+               other[k] * bytes, ratio);
         if (k == last)
             printf("   at most %.2f: %s", plan->bar, verdict(ratio, plan->bar));
         printf("\n");

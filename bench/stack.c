@@ -78,7 +78,7 @@ static int stack_line(const char *name, size_t most, size_t bar)
 }
 
 /* The most stack of each call over codes, lengths and bytes held in the record; of the sheet calls, over codes and numbers of records. A record
-   to finish has odd bits, one to feed can't. Longer output is of all words. */
+   to finish has odd bits, one to feed can't. Longer output is of all words. Wells are searched for from an injector and from a producer. */
 int stacks(const uint8_t *message)
 {
     static const struct {
@@ -154,8 +154,10 @@ int stacks(const uint8_t *message)
         size_t most = 0;
         for (size_t k = 0; k < PLANS[i].count; k++) {
             struct job job = batch_job(&batch, PLANS[i].sizes[k].sheets, PLANS[i].sizes[k].n);
-            size_t own = own_stack(PLANS[i].run, &job);
-            most = own > most ? own : most;
+            for (batch.start = 0; batch.start < 2 && batch.start < batch.n; batch.start++) {
+                size_t own = own_stack(PLANS[i].run, &job);
+                most = own > most ? own : most;
+            }
         }
         ok &= stack_line(PLANS[i].call, most, PLAN_STACK_BAR);
     }

@@ -37,6 +37,14 @@ static inline void fill_wells(uint8_t *sheet, size_t n)
     }
 }
 
+/* Link k of every producer names the first injector, which reaches all wells in three hops then. Those that link it already stay as they are. */
+static inline void link_first(uint8_t *sheet, size_t n, size_t k)
+{
+    for (size_t i = 1; i < n; i += 2)
+        if ((i - 1) % (n / 4) != 0)
+            put(sheet + SHEET_RECORD * i + LUFFA_LINK_INJECTOR(k), 2, well_number(0));
+}
+
 /* What a record's rate is in kilograms a day. */
 static inline uint64_t kilograms(const uint8_t *well)
 {
@@ -47,12 +55,14 @@ static inline uint64_t kilograms(const uint8_t *well)
     return 1000 * rate;
 }
 
-/* Sheets of n wells each, one after another, with their counts and the lists of a brine statement. */
+/* Sheets of n wells each, one after another, with their counts and the lists of a brine statement; the place from which wells are searched for in
+   the first of them, and their marks. */
 struct batch {
-    size_t sheets, n, counts[LUFFA_BATCH_MOST];
+    size_t sheets, n, counts[LUFFA_BATCH_MOST], start;
     uint8_t wells[SHEET_RECORD * SHEET_MOST * LUFFA_BATCH_MOST];
     uint64_t intake[SHEET_MOST * LUFFA_BATCH_MOST];
     int64_t spare[SHEET_MOST * LUFFA_BATCH_MOST];
+    uint8_t reached[SHEET_MOST];
 };
 
 /* The job of a call on such a batch, or of digesting its bytes. */
@@ -63,6 +73,7 @@ static inline struct job batch_job(struct batch *batch, size_t sheets, size_t n)
     job.batch = batch;
     batch->sheets = sheets;
     batch->n = n;
+    batch->start = 0;
     for (size_t s = 0; s < sheets; s++) {
         batch->counts[s] = n;
         fill_wells(batch->wells + SHEET_RECORD * n * s, n);
@@ -70,12 +81,17 @@ static inline struct job batch_job(struct batch *batch, size_t sheets, size_t n)
     return job;
 }
 
-/* The calls: the check is of the first sheet. */
+/* The calls: the check and the search are of the first sheet. */
 static inline struct luffa_content_answer check_of(const struct batch *b) { return luffa_plan_check(b->wells, sizeof b->wells, b->n); }
 
 static inline struct luffa_brine_answer page_of(struct batch *b)
 {
     return luffa_plan_brine(b->wells, sizeof b->wells, b->counts, b->sheets, b->intake, COUNT(b->intake), b->spare, COUNT(b->spare));
+}
+
+static inline uint32_t reach_of(struct batch *b, size_t hops)
+{
+    return luffa_plan_reach(b->wells, sizeof b->wells, b->n, well_number(b->start), hops, b->reached, sizeof b->reached);
 }
 
 /* As works, whose answer is 0 where all is sound. */
@@ -90,5 +106,7 @@ static inline uint32_t archive_plan_brine(struct job *job)
     struct luffa_brine_answer answer = page_of(job->batch);
     return (uint32_t)(answer.number | answer.faulted);
 }
+
+static inline uint32_t archive_plan_reach(struct job *job) { return reach_of(job->batch, LUFFA_HOPS_MOST); }
 
 #endif
