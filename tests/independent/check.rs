@@ -8,6 +8,7 @@ use crate::luffa::*;
 use crate::sheet::{Record, Saved, Sheet, MARK_WORDS, MOST};
 use crate::{
     check_batch, check_bits, check_brine, check_mend, check_output, check_own, check_plan,
+    check_reach,
 };
 use std::fmt::Debug;
 
@@ -140,6 +141,7 @@ pub fn differences() -> Vec<String> {
     check_output::differences(&mut report, numbers);
     check_plan::differences(&mut report);
     check_brine::differences(&mut report);
+    check_reach::differences(&mut report, numbers);
     check_mend::differences(&mut report, numbers);
     check_batch::differences(&mut report, numbers);
     check_own::differences(&mut report, numbers);

@@ -1,8 +1,8 @@
 //! A separately written Luffa program, to compare another one with. The hash is in luffa.rs; the
 //! four output lines are those of the digest program in the build requirements, `words` gives the
 //! longer output of document 02, `bits` takes a message that stops inside a byte, `plan` is the check
-//! of a sheet's content, `brine` the brine statement over a batch of sheets, and `mend` finds the spoiled
-//! marks of a sheet.
+//! of a sheet's content, `brine` the brine statement over a batch of sheets, `reach` tells who depends on a
+//! well, and `mend` finds the spoiled marks of a sheet.
 
 mod batch;
 mod bits;
@@ -15,17 +15,20 @@ mod check_mend;
 mod check_output;
 mod check_own;
 mod check_plan;
+mod check_reach;
 mod luffa;
 mod mend;
 mod output;
 mod own;
 mod plan;
+mod reach;
 mod sheet;
 
 use bits::BitLuffa;
 use luffa::{digest, Luffa, CODES};
 use output::{Asked, Output};
 use plan::Well;
+use reach::Net;
 use sheet::{Sheet, GROUP, MARK_WORDS, MOST, RECORD_BYTES};
 use std::fs::File;
 use std::io::{self, BufRead, BufReader, BufWriter, ErrorKind, Read, Write};
@@ -40,6 +43,8 @@ usage: independent               four digest lines for standard input
        independent pieces        a digest for each line `CODE HEX` of standard input
        independent plan          whether the records on standard input are a sound sheet
        independent brine COUNT.. the brine statement over sheets of so many records each
+       independent reach WELL HOPS
+                                 the records that at most HOPS links join to the well
        independent mend CODE N   which marks of a sheet of N records are wrong, and what they should be
        independent check         checks itself against the specification";
 
@@ -67,6 +72,10 @@ fn main() -> ExitCode {
         ["brine", ref counts @ ..] => match counts.iter().map(|n| n.parse()).collect() {
             Ok(counts) => brine_page(counts),
             Err(_) => return usage(),
+        },
+        ["reach", well, hops] => match (well.parse(), hops.parse()) {
+            (Ok(well), Ok(hops)) => reached(well, hops),
+            _ => return usage(),
         },
         ["mend", code, n] => match (code_of(code.as_bytes()), n.parse()) {
             (Some(code), Ok(n)) => mend_marks(code, n),
@@ -251,16 +260,20 @@ fn pieces() -> io::Result<ExitCode> {
     Ok(ExitCode::SUCCESS)
 }
 
-fn plan_fault() -> io::Result<ExitCode> {
+/// The wells on standard input, unless they are too many for a sheet or it ends inside a record.
+fn sheet_wells() -> io::Result<Option<Vec<Well>>> {
     let most = RECORD_BYTES * MOST;
     let mut bytes = Vec::new();
     // A byte more than a sheet can have shows that there are too many.
     input()?.take(most as u64 + 1).read_to_end(&mut bytes)?;
-    let (records, rest) = bytes.as_chunks();
-    if !rest.is_empty() {
+    let whole = bytes.len() % RECORD_BYTES == 0;
+    Ok(whole.then(|| plan::wells(&bytes, MOST)))
+}
+
+fn plan_fault() -> io::Result<ExitCode> {
+    let Some(wells) = sheet_wells()? else {
         return failed("5\n");
-    }
-    let wells: Vec<Well> = records.iter().map(Well::read).collect();
+    };
     if let Some((place, rule)) = plan::fault(&wells) {
         return failed(&format!("{place} {rule}\n"));
     }
@@ -290,6 +303,34 @@ fn brine_page(counts: Vec<usize>) -> io::Result<ExitCode> {
     }
     text += &format!("sound {}\nfaulted {}\n", page.sound, page.faulted);
     text += &format!("intake {}\noverloaded {}\n", page.intake, page.overloaded);
+    print(&text)?;
+    Ok(ExitCode::SUCCESS)
+}
+
+fn reached(well: usize, hops: usize) -> io::Result<ExitCode> {
+    let Some(wells) = sheet_wells()? else {
+        return failed("5\n");
+    };
+    let n = wells.len();
+    let net = Net::new(wells);
+    let asked = reach::Asked {
+        sheet_len: RECORD_BYTES * n,
+        n,
+        well,
+        hops,
+        // What is printed needs no room.
+        room: n,
+    };
+    if let Some(number) = net.refusals(asked).first() {
+        return failed(&format!("{number}\n"));
+    }
+    let far = net.distances(net.place(well).expect("a well of the sheet"));
+    let mut text = String::new();
+    for (place, (well, far)) in net.wells.iter().zip(far).enumerate() {
+        if far <= hops {
+            text += &format!("{place} {} {far}\n", well.number);
+        }
+    }
     print(&text)?;
     Ok(ExitCode::SUCCESS)
 }

@@ -91,6 +91,12 @@ impl Well {
     }
 }
 
+/// The wells of the first n records, as many as are there.
+pub fn wells(sheet: &[u8], n: usize) -> Vec<Well> {
+    let records = sheet.as_chunks().0.iter();
+    records.take(n).map(Well::read).collect()
+}
+
 /// A link names an injector if some well of the sheet has that number and kind 2.
 pub fn is_injector(wells: &[Well], number: u16) -> bool {
     wells
