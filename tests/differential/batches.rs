@@ -5,7 +5,7 @@
 use crate::batch::MOST_CHANGES;
 use crate::batch_kinds::{see, see_refused};
 use crate::calls;
-use crate::histories::History;
+use crate::histories::{words_for, History};
 use crate::luffa;
 use crate::mends::{Way, WAYS};
 use crate::met::Met;
@@ -261,7 +261,10 @@ impl Numbers {
                 given.out.truncate(length);
                 format!("output {name} short")
             }
-            5 => self.refuse_sheet(&mut given.n, &mut given.sheet, &mut given.marks),
+            5 => {
+                let room = |n| given.marks.resize(words_for(n), 0);
+                self.refuse_sheet(&mut given.n, &mut given.sheet, room)
+            }
             6 => self.refuse_marks(n, &mut given.marks),
             _ => {
                 let d = digest_bytes(given.code);

@@ -6,7 +6,7 @@ use crate::brine_model::{refusals, Batch, BrineAnswer};
 use crate::brines::{FEWER, FEW_ONCE_CUT, LISTS, TOO_MANY_SHEETS};
 use crate::met::{answer_kinds, Met};
 use crate::plan::{self, Rule, Well, INJECTOR, PRODUCER};
-use crate::plan_kinds::{See, LENGTHS};
+use crate::plan_kinds::{which, See, LENGTHS, PLACES};
 use crate::plans::{TOO_MANY, TOO_SHORT};
 use crate::sheet::{MOST, RECORD_BYTES};
 
@@ -102,11 +102,7 @@ fn see_sheets(see: See, seen: &[Seen]) {
     for (k, sheet) in seen.iter().enumerate() {
         see(format!("{} records, {}", sheet.wells.len(), sheet.sort()));
         let Some(rule) = sheet.fault else { continue };
-        let at = match k {
-            0 => PLACES[0],
-            _ if k + 1 == seen.len() => PLACES[2],
-            _ => PLACES[1],
-        };
+        let at = which(k, seen.len());
         see(format!("{rule} in the {at} sheet"));
         let mut later = seen[k + 1..].iter().flat_map(|next| next.intake);
         if later.any(|&intake| intake > 0) {
@@ -114,8 +110,6 @@ fn see_sheets(see: See, seen: &[Seen]) {
         }
     }
 }
-
-const PLACES: [&str; 3] = ["first", "middle", "last"];
 
 /// How large the figures are.
 fn see_figures(see: See, seen: &[Seen], answer: &BrineAnswer) {

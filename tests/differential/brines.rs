@@ -23,7 +23,7 @@ impl Numbers {
     }
 
     /// A sheet that sends as much as it can, all of it to one injector.
-    fn one_takes_all(&mut self, n: usize) -> Vec<Well> {
+    pub fn one_takes_all(&mut self, n: usize) -> Vec<Well> {
         let all = self.well_numbers(n);
         let at = self.some_place(n);
         let mut wells: Vec<Well> = all
@@ -41,7 +41,7 @@ impl Numbers {
     }
 
     /// A sheet of producers with injectors of their own, all of which are overloaded.
-    fn all_overloaded(&mut self, n: usize) -> Vec<Well> {
+    pub fn all_overloaded(&mut self, n: usize) -> Vec<Well> {
         let all = self.well_numbers(n);
         let mut wells = vec![];
         for group in all.chunks(5) {
@@ -205,7 +205,7 @@ impl Numbers {
 }
 
 /// Places of a list that the records don't need.
-const MORE_PLACES: [usize; 5] = [0, 0, 0, 1, 5];
+pub const MORE_PLACES: [usize; 5] = [0, 0, 0, 1, 5];
 
 /// Places of a list that the records need and aren't there, by name.
 pub const FEWER: [(&str, usize); 2] = [("one", 1), ("all", usize::MAX)];

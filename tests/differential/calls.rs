@@ -7,6 +7,8 @@ use crate::mend_model::{MendAnswer, Mending};
 use crate::own::Own;
 use crate::own_model::{self, OwnAnswer};
 use crate::plan_model::{self, ContentAnswer};
+use crate::reach::Net;
+use crate::reach_model::Search;
 use crate::sheet_model::{self, Answer, Call, Given};
 use std::fmt::{Debug, Write};
 
@@ -147,6 +149,15 @@ extern "C" {
         spare: *mut i64,
         spare_len: usize,
     ) -> BrineAnswer;
+    fn luffa_plan_reach(
+        sheet: *const u8,
+        sheet_len: usize,
+        n: usize,
+        well: usize,
+        hops: usize,
+        reached: *mut u8,
+        reached_len: usize,
+    ) -> u32;
 }
 
 /// A buffer to lend, with watched bytes on both sides.
@@ -413,6 +424,25 @@ pub fn plan(sheet: &[u8], n: usize) -> Result<ContentAnswer, String> {
     let got = unsafe { luffa_plan_check(s.pointer(), sheet.len(), n) };
     let call = format!("luffa_plan_check of {n} records: buffer 0 the sheet");
     agree(&call, &[sheet], got, want, &[(s, sheet)])
+}
+
+/// The net is that of the sheet's first n records.
+pub fn reach(given: &mut Search, net: &Net) -> Result<u32, String> {
+    let before = given.clone();
+    let want = given.answer(net);
+    let (mut s, mut r) = (Lent::new(&before.sheet), Lent::new(&before.reached));
+    let Search { n, well, hops, .. } = before;
+    let (sheet, sheet_len) = (s.pointer(), before.sheet.len());
+    let (reached, reached_len) = (r.pointer(), before.reached.len());
+    let got = unsafe { luffa_plan_reach(sheet, sheet_len, n, well, hops, reached, reached_len) };
+    let call = format!("luffa_plan_reach of {n} records, well {well}, {hops} hops");
+    agree(
+        &(call + ": buffer 0 the sheet, 1 the marks"),
+        &[&before.sheet, &before.reached],
+        got,
+        want,
+        &[(s, &before.sheet), (r, &given.reached)],
+    )
 }
 
 pub fn brine(batch: &mut Batch) -> Result<BrineAnswer, String> {

@@ -1,6 +1,6 @@
 //! The archive against a model of its calls over the separately written program, on random messages,
-//! cuts, records, numbers of words, sheets, marks, sets of changes, pairs of desks, planners' own marks, plans and
-//! batches of them: differential [SEED [CASES]]. Case k of a seed is case 0 of the seed k higher, so that one that
+//! cuts, records, numbers of words, sheets, marks, sets of changes, pairs of desks, planners' own marks, plans, their
+//! wells and batches of them: differential [SEED [CASES]]. Case k of a seed is case 0 of the seed k higher, so that one that
 //! failed is run again alone.
 
 mod batch_kinds;
@@ -28,6 +28,9 @@ mod owns;
 mod plan_kinds;
 mod plan_model;
 mod plans;
+mod reach_kinds;
+mod reach_model;
+mod reaches;
 mod sheet_model;
 
 #[path = "../independent/batch.rs"]
@@ -49,6 +52,8 @@ mod own;
 #[path = "../independent/plan.rs"]
 #[allow(dead_code)]
 mod plan;
+#[path = "../independent/reach.rs"]
+mod reach;
 #[path = "../independent/sheet.rs"]
 #[allow(dead_code)]
 mod sheet;
@@ -141,6 +146,9 @@ const OWNS: usize = 1;
 /// The plans of a case.
 const PLANS: usize = 6;
 
+/// The plans of a case of which it is asked who depends on a well.
+const REACHES: usize = 1;
+
 fn case(seed: u64, met: &mut Met) -> Agreed {
     let numbers = &mut Numbers(seed);
     hashes::message(numbers, met)?;
@@ -170,6 +178,9 @@ fn case(seed: u64, met: &mut Met) -> Agreed {
     }
     for _ in 0..PLANS {
         plans::plan(numbers, met)?;
+    }
+    for _ in 0..REACHES {
+        reaches::reach(numbers, met)?;
     }
     brines::brine(numbers, met)
 }
@@ -203,6 +214,7 @@ fn main() {
         mend_kinds::print(&met),
         plan_kinds::print(&met),
         brine_kinds::print(&met),
+        reach_kinds::print(&met),
     ];
     let unmet = unmet.concat();
     // A few cases can't meet everything.

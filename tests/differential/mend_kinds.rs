@@ -103,15 +103,20 @@ pub fn want_refused(want: See) {
     for code in NO_CODES {
         want(format!("refused: code {code}"));
     }
+    want_no_sheet(want);
+    for (name, _) in FEWER_WORDS {
+        want(format!("refused: marks {name} short"));
+    }
+}
+
+/// What any call must meet that has a sheet.
+pub fn want_no_sheet(want: See) {
     for (name, _) in TOO_MANY {
         want(format!("refused: n is {name}"));
     }
     want("refused: 1,025 with room".into());
     for (name, _) in TOO_SHORT {
         want(format!("refused: sheet {name} short"));
-    }
-    for (name, _) in FEWER_WORDS {
-        want(format!("refused: marks {name} short"));
     }
 }
 

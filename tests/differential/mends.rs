@@ -144,7 +144,8 @@ impl Numbers {
             ways.push(format!("code {}", given.code));
         }
         if hold & sheet != 0 {
-            ways.push(self.refuse_sheet(&mut given.n, &mut given.sheet, &mut given.marks));
+            let room = |n| given.marks.resize(words_for(n), 0);
+            ways.push(self.refuse_sheet(&mut given.n, &mut given.sheet, room));
         }
         if hold & marks != 0 {
             ways.push(self.refuse_marks(n, &mut given.marks));
@@ -152,12 +153,12 @@ impl Numbers {
         ways
     }
 
-    /// Has n records be too many, or the sheet too short for them.
+    /// Has n records be too many, or the sheet too short for them. `room` lends what so many of them need beside it.
     pub fn refuse_sheet(
         &mut self,
         n: &mut usize,
         sheet: &mut Vec<u8>,
-        marks: &mut Vec<u32>,
+        room: impl FnOnce(usize),
     ) -> String {
         match self.between(0, 2) {
             0 if *n > 0 => {
@@ -168,7 +169,7 @@ impl Numbers {
             1 => {
                 *n = MOST + 1;
                 sheet.resize(RECORD_BYTES * *n, 0);
-                marks.resize(words_for(*n), 0);
+                room(*n);
                 "1,025 with room".into()
             }
             _ => {

@@ -2,8 +2,8 @@
 //! rule beside it or after it, and its numbers just kept and just broken.
 
 use crate::met::Met;
-use crate::plan::{broken, is_injector, Link, Rule, Well, INJECTOR, PRODUCER};
-use crate::plan_model::{wells, ContentAnswer};
+use crate::plan::{broken, is_injector, wells, Link, Rule, Well, INJECTOR, PRODUCER};
+use crate::plan_model::ContentAnswer;
 use crate::plans::{OVER_RATE, TOO_MANY, TOO_SHORT, TOTALS};
 use crate::sheet::{MOST, RECORD_BYTES};
 
@@ -72,13 +72,20 @@ fn see_sound(see: See, all: &[Well]) {
     }
 }
 
+pub const PLACES: [&str; 3] = ["first", "middle", "last"];
+
+/// Which of so many places this is.
+pub fn which(place: usize, of: usize) -> &'static str {
+    match place {
+        0 => PLACES[0],
+        _ if place + 1 == of => PLACES[2],
+        _ => PLACES[1],
+    }
+}
+
 /// The place, and other faults beside the one answered.
 fn see_others(met: &mut Met, wells: &[Well], place: usize, rule: Rule) {
-    let at = match place {
-        0 => "first",
-        _ if place + 1 == wells.len() => "last",
-        _ => "middle",
-    };
+    let at = which(place, wells.len());
     met.see(format!("{rule} at the {at} place"));
     let also = &broken(wells, place)[1..];
     for other in also {
@@ -238,7 +245,7 @@ fn wanted() -> Vec<String> {
         want(format!("{n} records, last faulty"));
     }
     for a in Rule::ALL {
-        for at in ["first", "middle", "last"] {
+        for at in PLACES {
             want(format!("{a} at the {at} place"));
         }
         for b in Rule::ALL {

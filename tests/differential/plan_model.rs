@@ -1,6 +1,6 @@
 //! The check of content by document 02's text: from what is lent to the answer, the refusal included.
 
-use crate::plan::{self, Well};
+use crate::plan;
 use crate::sheet::MOST;
 
 /// As C has it.
@@ -12,16 +12,11 @@ pub struct ContentAnswer {
     pub place: u64,
 }
 
-/// The first n records, which must be there.
-pub fn wells(sheet: &[u8], n: usize) -> Vec<Well> {
-    sheet.as_chunks().0[..n].iter().map(Well::read).collect()
-}
-
 pub fn answer(sheet: &[u8], n: usize) -> ContentAnswer {
     let refused = n > MOST || (sheet.len() as u128) < 40 * n as u128;
     let fault = match refused {
         true => None,
-        false => plan::fault(&wells(sheet, n)),
+        false => plan::fault(&plan::wells(sheet, n)),
     };
     let (place, rule) = fault.map_or((0, 0), |(place, rule)| (place, rule as u64));
     ContentAnswer {

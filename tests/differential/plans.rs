@@ -284,7 +284,7 @@ pub fn at_rest(number: u16, kind: u8) -> Well {
     }
 }
 
-fn injectors(wells: &[Well]) -> Vec<u16> {
+pub fn injectors(wells: &[Well]) -> Vec<u16> {
     let injectors = wells.iter().filter(|well| well.kind == INJECTOR);
     injectors.map(|well| well.number).collect()
 }
