@@ -86,6 +86,8 @@ mod digest;
 mod error;
 mod ffi;
 mod hash;
+#[cfg(test)]
+mod order;
 pub mod plan;
 #[cfg(test)]
 mod random;

@@ -1,10 +1,9 @@
 //! The refusals of a brine statement, in their order, beside the same calls with just enough.
 
 use super::{Page, brine, brine_into};
+use crate::order::MAX;
 use crate::plan::rules::injector;
 use crate::{Error, ffi};
-
-const MAX: usize = usize::MAX;
 
 /// Lends so many bytes and places, all of them filled; where refused, all must be as they were.
 #[track_caller]

@@ -1,13 +1,11 @@
 //! The order of the refusals of many changes: each alone and with every set of the others.
 
+use crate::order::{MAX, WIDE, Way, every_set};
 use crate::random::Numbers;
 use crate::sheet::held::Held;
 use crate::sheet::history::Plain;
 use crate::sheet::tests::sheet;
 use crate::{Code, ffi};
-
-pub const MAX: usize = usize::MAX;
-pub const WIDE: usize = 1 << 32;
 
 /// A call, with all that it is lent.
 #[derive(Clone)]
@@ -58,11 +56,8 @@ impl Call {
 /// The order in which they are judged.
 const ORDER: [u64; 9] = [1, 2, 5, 6, 14, 7, 9, 10, 11];
 
-type Way = fn(&mut Call);
-
-/// Ways to meet each, for three changes or more. None undoes one that stands before it here, unless it has
-/// the earlier number of the two in the order.
-const WAYS: [(u64, &[Way]); 9] = [
+/// Ways to meet each, for three changes or more.
+const WAYS: [(u64, &[Way<Call>]); 9] = [
     (
         1,
         &[
@@ -148,19 +143,7 @@ const WAYS: [(u64, &[Way]); 9] = [
 fn every_set_of_refusals() {
     for code in Code::ALL {
         let calls = [8, 9, 10, 11].map(|n| Call::new(code, n, [1, 4, 6]));
-        let sets = 0..1 << WAYS.len();
-        for (set, way) in sets.flat_map(|set| [0, 1, 2, 3, 4].map(|way| (set, way))) {
-            let mut call = calls[(set + way) % 4].clone();
-            let mut wrong = vec![];
-            for (k, (number, ways)) in WAYS.into_iter().enumerate() {
-                if set >> k & 1 == 1 {
-                    ways[way % ways.len()](&mut call);
-                    wrong.push(number);
-                }
-            }
-            let first = ORDER.into_iter().find(|number| wrong.contains(number));
-            call.answers(first.unwrap_or(0));
-        }
+        every_set(&calls, &ORDER, &WAYS, Call::answers);
     }
 }
 

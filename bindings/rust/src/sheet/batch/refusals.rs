@@ -1,7 +1,8 @@
 //! Each refusal of many changes at its edges, beside the same calls with just enough.
 
 use super::Sheet;
-use super::order::{Call, MAX, WIDE};
+use super::order::Call;
+use crate::order::{MAX, WIDE};
 use crate::sheet::history::Plain;
 use crate::sheet::tests::sheet;
 use crate::{Code, Digest, Error};

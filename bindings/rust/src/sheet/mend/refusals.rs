@@ -1,9 +1,8 @@
 //! The refusals of a mend, in their order, beside the same calls with just enough.
 
 use super::Sheet;
+use crate::order::MAX;
 use crate::{Code, Error, ffi};
-
-const MAX: usize = usize::MAX;
 
 /// Lends so many bytes and words, none of them a mark's. Where refused, nothing is said or written.
 #[track_caller]

@@ -4,28 +4,23 @@ use super::Sheet;
 use super::call::Call;
 use super::tests::Kind;
 use crate::Code;
+use crate::order::{MAX, WIDE, Way, every_set};
 use crate::sheet::tests::sheet;
 
-pub const MAX: usize = usize::MAX;
-pub const WIDE: usize = 1 << 32;
-
-type Way = fn(&mut Call);
-
 // Ways to meet what each kind of save alone is refused for. They come before the others.
-const NO_PLACE: &[Way] = &[
+const NO_PLACE: &[Way<Call>] = &[
     |c| c.place = c.held.n,
     |c| c.place += WIDE,
     |c| c.place = MAX,
 ];
-const NO_ROOM: &[Way] = &[
+const NO_ROOM: &[Way<Call>] = &[
     |c| c.held.sheet.truncate(40 * c.held.n),
     |c| c.held.sheet.truncate(40 * c.held.n + 39),
 ];
-const NO_RECORD: &[Way] = &[|c| c.held.n = 0];
+const NO_RECORD: &[Way<Call>] = &[|c| c.held.n = 0];
 
-/// Ways to meet the others. None undoes one that stands before it here, unless it has the earlier number of the
-/// two in the order.
-const WAYS: [(u64, &[Way]); 8] = [
+/// Ways to meet the others.
+const WAYS: [(u64, &[Way<Call>]); 8] = [
     (
         1,
         &[
@@ -125,19 +120,7 @@ fn every_set_of_refusals() {
                 own.resize(own_n, [1; 40]);
                 Call::new(kind, &held, &Sheet::from_records(code, &own).unwrap())
             });
-            let sets = 0..1 << ways.len();
-            for (set, way) in sets.flat_map(|set| (0..7).map(move |way| (set, way))) {
-                let mut call = calls[(set + way) % 4].clone();
-                let mut wrong = vec![];
-                for (k, (number, ways)) in ways.iter().enumerate() {
-                    if set >> k & 1 == 1 {
-                        ways[way % ways.len()](&mut call);
-                        wrong.push(number);
-                    }
-                }
-                let first = order.iter().find(|number| wrong.contains(number));
-                call.answers(first.copied().unwrap_or(0));
-            }
+            every_set(&calls, order, &ways, Call::answers);
         }
     }
 }

@@ -2,9 +2,9 @@
 //! right or not.
 
 use super::call::Call;
-use super::order::{MAX, WIDE};
 use super::tests::{Kind, told};
 use super::{Opened, Sheet};
+use crate::order::{MAX, WIDE};
 use crate::sheet::tests::sheet;
 use crate::{Code, Digest, Error};
 
