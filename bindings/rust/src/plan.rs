@@ -26,6 +26,8 @@ use std::fmt;
 
 mod brine;
 #[cfg(test)]
+mod given;
+#[cfg(test)]
 mod rules;
 #[cfg(test)]
 mod tests;

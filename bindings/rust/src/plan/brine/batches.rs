@@ -1,27 +1,12 @@
 //! Random batches against sums that are worked out injector by injector.
 
 use super::{Page, Row, Totals, brine, brine_into};
-use crate::plan::{Kind, Link, Well};
+use crate::plan::given::{Given, any_wells};
+use crate::plan::{Kind, Well};
 use crate::random::Numbers;
 use std::collections::BTreeMap;
 
-/// A random sheet.
-struct Given {
-    /// Sound wells.
-    wells: Vec<Well>,
-    /// Where the kind of one is mistyped, if it is.
-    fault: Option<usize>,
-}
-
 impl Given {
-    fn bytes(&self) -> Vec<u8> {
-        let mut records: Vec<_> = self.wells.iter().map(Well::to_record).collect();
-        if let Some(place) = self.fault {
-            records[place][2] ^= 4;
-        }
-        records.concat()
-    }
-
     /// Each injector asks every producer what it sends.
     fn rows(&self) -> Vec<Row> {
         let row = |well: &Well| match (self.fault, well.kind()) {
@@ -63,28 +48,10 @@ fn expected(batch: &[Given]) -> Page {
     Page { totals, rows }
 }
 
-/// Up to 24 wells of both kinds. Two sheets will have some numbers in common.
-fn any_wells(numbers: &mut Numbers) -> Vec<Well> {
-    let (first, step) = (numbers.below(61), 1 + numbers.below(60));
-    let mut wells: Vec<_> = (0..numbers.below(25))
-        .map(|place| 1 + 1074 * ((first + step * place) % 61) as u16)
-        .map(|number| [Well::producer, Well::injector][numbers.below(2)](number))
-        .collect();
-    let injectors: Vec<_> = wells
-        .iter()
-        .filter(|w| w.kind() == Kind::Injector)
-        .map(Well::number)
-        .collect();
-    let producers = |w: &&mut Well| w.kind() == Kind::Producer;
-    for well in wells.iter_mut().filter(producers) {
-        let links = any_links(numbers, &injectors);
-        if !links.is_empty() {
-            let thousands = 1000 * (1 + numbers.below(100));
-            let rate = [1, thousands, 1 + numbers.below(100_000)][numbers.below(3)];
-            *well = well.with_rate(rate as u32).with_links(&links).unwrap();
-        }
-    }
-    // Rates around what is sent, as far as a rate may go.
+/// Up to 24 wells of both kinds, the injectors with rates around what they are sent, as far as a rate may go.
+fn any_rates(numbers: &mut Numbers) -> Vec<Well> {
+    let n = numbers.below(25);
+    let mut wells = any_wells(numbers, n, Well::LINKS_MOST);
     for place in 0..wells.len() {
         if wells[place].kind() == Kind::Injector {
             let sent = sent(&wells, wells[place].number()) as usize;
@@ -96,34 +63,14 @@ fn any_wells(numbers: &mut Numbers) -> Vec<Well> {
     wells
 }
 
-/// None to four of the injectors, with shares that add up.
-fn any_links(numbers: &mut Numbers, injectors: &[u16]) -> Vec<Link> {
-    let (first, mut left) = (numbers.below(61), 1000);
-    let count = numbers.below(injectors.len().min(4) + 1);
-    let link = |k| {
-        let share = match count - 1 - k {
-            0 => left,
-            behind => 1 + numbers.below(left - behind),
-        };
-        left -= share;
-        Link {
-            injector: injectors[(first + k) % injectors.len()],
-            share: share as u16,
-        }
-    };
-    (0..count).map(link).collect()
-}
-
 #[test]
 fn random_batches() {
     let mut numbers = Numbers(3);
     let mut met = BTreeMap::new();
     for k in 0..1000 {
         let given = |_| {
-            let wells = any_wells(&mut numbers);
-            let fault =
-                (!wells.is_empty() && numbers.below(4) == 0).then(|| numbers.below(wells.len()));
-            Given { wells, fault }
+            let wells = any_rates(&mut numbers);
+            Given::any(&mut numbers, wells)
         };
         let batch: Vec<_> = (0..k % 9).map(given).collect();
         let sheets: Vec<_> = batch.iter().map(Given::bytes).collect();
