@@ -87,6 +87,16 @@ pub enum Error {
     /// 17: more than 7 odd bits, odd bits without a byte that has them, or a record whose message has
     /// ended with odd bits.
     Odd,
+    /// 19: a chain of more than three links was asked for. [`plan::reach()`](crate::plan::reach()) and
+    /// [`plan::reach_into`](crate::plan::reach_into) alone give it and the two after it.
+    Hops,
+    /// 20: the sheet has a fault, which [`plan::check`](crate::plan::check) names.
+    Unsound,
+    /// 21: no well of the sheet has this number.
+    Well,
+    /// 22: there are fewer bytes than the sheet has records.
+    /// [`plan::reach_into`](crate::plan::reach_into) alone gives it.
+    Reach,
     /// 25: a list has fewer places than the batch has records.
     /// [`plan::brine_into`](crate::plan::brine_into) alone gives it.
     List,
@@ -113,6 +123,10 @@ impl Error {
             Error::Own => 15,
             Error::StaleTail { .. } => 16,
             Error::Odd => 17,
+            Error::Hops => 19,
+            Error::Unsound => 20,
+            Error::Well => 21,
+            Error::Reach => 22,
             Error::List => 25,
         }
     }
@@ -193,6 +207,10 @@ impl Error {
             Error::Set,
             Error::Own,
             Error::Odd,
+            Error::Hops,
+            Error::Unsound,
+            Error::Well,
+            Error::Reach,
             Error::List,
         ];
         match all.into_iter().find(|e| u64::from(e.number()) == number) {
@@ -230,6 +248,10 @@ impl fmt::Display for Error {
             Error::Set => "there are more than 64 changes in one save, or their places don't rise",
             Error::Own => "these can't be the count and the marks of a sheet at this code",
             Error::Odd => "no message has these odd bits, or it has ended with odd bits already",
+            Error::Hops => "a chain of more than 3 links is asked for",
+            Error::Unsound => "the sheet has a fault, which the check names",
+            Error::Well => "no well of the sheet has this number",
+            Error::Reach => "there are fewer bytes than the sheet has records",
             Error::List => "a list has fewer places than the batch has records",
         })
     }

@@ -253,6 +253,15 @@ unsafe extern "C" {
         spare: *mut i64,
         spare_len: usize,
     ) -> BrineAnswer;
+    fn luffa_plan_reach(
+        sheet: *const u8,
+        sheet_len: usize,
+        n: usize,
+        well: usize,
+        hops: usize,
+        reached: *mut u8,
+        reached_len: usize,
+    ) -> u32;
 }
 
 pub fn digest(code: usize, message: &[u8], out: &mut [u8]) -> Result<(), Error> {
@@ -617,4 +626,26 @@ pub fn plan_brine(
             spare.len(),
         )
     }
+}
+
+pub fn plan_reach(
+    sheet: &[u8],
+    n: usize,
+    well: usize,
+    hops: usize,
+    reached: &mut [u8],
+) -> Result<(), Error> {
+    // SAFETY: `sheet` is read and `reached` is written within their lengths; they are distinct borrows.
+    let number = unsafe {
+        luffa_plan_reach(
+            sheet.as_ptr(),
+            sheet.len(),
+            n,
+            well,
+            hops,
+            reached.as_mut_ptr(),
+            reached.len(),
+        )
+    };
+    Error::judge(number.into(), 0)
 }

@@ -71,8 +71,8 @@
 //! [`Sheet::from_kept`] mends those that a disk has spoiled, and says which was the first.
 //!
 //! What the records mean to the balancer is in [`plan`]: a [`Well`](plan::Well) has the fields of a
-//! record, [`Sheet::check`] says whether the wells of a sheet are sound, and [`plan::brine()`] what
-//! the injectors of many sheets are sent and have to spare.
+//! record, [`Sheet::check`] says whether the wells of a sheet are sound, [`plan::brine()`] what the
+//! injectors of many sheets are sent and have to spare, and [`plan::reach()`] who depends on a well.
 //!
 //! The library allocates nothing and keeps nothing, so every type here may go from thread to thread.
 //! Not claimed, as by the library: that two messages never share a digest, anything about time or

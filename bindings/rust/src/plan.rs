@@ -19,7 +19,8 @@
 //! # Ok::<(), Box<dyn std::error::Error>>(())
 //! ```
 //!
-//! What the injectors of up to 64 sheets are sent, and have to spare, is on one page: [`brine()`].
+//! What the injectors of up to 64 sheets are sent, and have to spare, is on one page: [`brine()`]. Who
+//! depends on a well, by the links that join them, [`reach()`] says.
 
 use crate::{Error, ffi, sheet};
 use std::fmt;
@@ -27,6 +28,7 @@ use std::fmt;
 mod brine;
 #[cfg(test)]
 mod given;
+mod reach;
 #[cfg(test)]
 mod rules;
 #[cfg(test)]
@@ -34,6 +36,7 @@ mod tests;
 mod well;
 
 pub use brine::{Page, Row, Totals, brine, brine_into};
+pub use reach::{Reached, reach, reach_into};
 pub use well::{Kind, Link, Well};
 
 /// What a check says: sound, or where the sheet isn't.

@@ -1,7 +1,7 @@
 //! The refusals: luffa.h's numbers, document 01's each met from the library itself. Those of longer output
 //! are met in hash/output/tests.rs too, those of a mend in sheet/mend/refusals.rs, those of many changes in
 //! sheet/batch, those of a save that brings what was opened in sheet/opened, and those that a brine statement
-//! alone gives in plan/brine/refusals.rs.
+//! or a search for who depends on a well alone gives in plan/brine/refusals.rs and plan/reach.
 
 use super::Error;
 use crate::ffi::{self, Lent, WhereAnswer};
@@ -11,7 +11,7 @@ use crate::{Code, Digest, Luffa256, Opened, Sheet};
 fn numbers_and_sentences() {
     assert_eq!(Error::judge(0, 0), Ok(()));
     let mut sentences = Vec::new();
-    for number in (1..=15).chain([17, 25]) {
+    for number in (1..=15).chain([17]).chain(19..=22).chain([25]) {
         let error = Error::judge(number, 5).unwrap_err();
         assert_eq!(u64::from(error.number()), number);
         let source: &dyn std::error::Error = &error;
@@ -20,7 +20,7 @@ fn numbers_and_sentences() {
     assert_eq!(Error::judge(11, 5), Err(Error::Stale { rounds: 5 }));
     sentences.sort();
     sentences.dedup();
-    assert_eq!(sentences.len(), 17);
+    assert_eq!(sentences.len(), 21);
 }
 
 /// A stale save that brings what was opened has the plain one's sentence, and where to look.
