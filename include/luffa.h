@@ -526,7 +526,7 @@ struct luffa_content_answer {
  * Whether the n records of a sheet are sound, or else the lowest faulty place and the first rule that
  * is broken there. A sheet of no records is sound. Nothing is written; notes and what lies behind the
  * n-th record don't matter. The time is a fixed part and so much a record, however many there are. The
- * call takes up to 17 KiB of stack, luffa_plan_reach up to 32 KiB, luffa_plan_brine up to 160 KiB, every
+ * call takes up to 17 KiB of stack, luffa_plan_reach up to 25 KiB, luffa_plan_brine up to 160 KiB, every
  * other one up to 4 KiB.
  *   5 LUFFA_SHEET   n is over LUFFA_SHEET_MOST, or sheet_len is less than 40n
  */
@@ -574,7 +574,7 @@ struct luffa_brine_answer luffa_plan_brine(const uint8_t *sheets, size_t sheets_
 #define LUFFA_HOPS_MOST 3
 
 /*
- * The time is a fixed part and so much a record, however many there are. The call takes up to 32 KiB of stack.
+ * The time is a fixed part and so much a record, however many there are. The call takes up to 25 KiB of stack.
  *   5 LUFFA_SHEET    n is over LUFFA_SHEET_MOST, or sheet_len is less than 40n
  *  19 LUFFA_HOPS     hops is over LUFFA_HOPS_MOST
  *  20 LUFFA_UNSOUND  luffa_plan_check faults the sheet of n records

@@ -62,7 +62,7 @@ pub fn reach(sheet: impl AsRef<[u8]>, well: u16, hops: usize) -> Result<Reached,
 ///
 /// Bytes beyond stay as they were, and so do all where the answer is an error. After those of
 /// [`reach()`] this is [`Error::Reach`], if there are fewer bytes than records. The library takes at most
-/// 160 KiB of stack for it.
+/// 25 KiB of stack for it.
 ///
 /// ```
 /// use luffa::Error;
