@@ -1,7 +1,7 @@
 -- Two lists compared element by element from the front.
 -- Assumes nothing.
 use mathlib.Core.Path.{_≡_, refl, sym, ap, _∙_}
-use mathlib.Core.Bool.{Bool, true, false, not, _&&_, _||_}
+use mathlib.Core.Bool.{Bool, true, false, not, _&&_, _||_, and-false}
 use mathlib.Core.List.{List, [], _∷_}
 use Prim.Native.Nat.{ℕ, zero, suc, _<_}
 use native.Mathlib.Omega.{arith}
@@ -24,6 +24,13 @@ same-step j [] y h i = absurd (omega arith)
 same-step j (a ∷ x) [] h i = absurd (omega arith)
 same-step zero (a ∷ x) (b ∷ y) h i = and-true (eqb a b)
 same-step (suc j) (a ∷ x) (b ∷ y) h i = ap (λ (c : Bool). eqb a b && c) (same-step j x y (omega arith) (omega arith)) ∙ last-compared (eqb a b) _ _
+
+-- lists of other lengths aren't the same
+pub other-length : (x y : List ℕ) → (length x ≡ length y → ⊥) → same x y ≡ false
+other-length [] [] h = absurd (h refl)
+other-length [] (b ∷ y) h = refl
+other-length (a ∷ x) [] h = refl
+other-length (a ∷ x) (b ∷ y) h = rw (other-length x y (λ e. h (ap suc e))) (and-false (eqb a b))
 
 either-other : (b c : Bool) → (not b || not c) ≡ not (b && c)
 either-other true c = refl

@@ -70,15 +70,20 @@ pub fn read(w: Width, marks: &[u32], m: usize) -> State
     }
 }
 
-// Whether a mark has other words than these. All 40 are compared without a stop at the first that differs, so that it goes by vectors.
-pub fn differs(mark: &[u32], words: &[u32]) -> bool
-    requires { ⌜ (length (now mark) ≡ 40) × (length (now words) ≡ 40) ⌝ }
+// Whether a mark has other words than these; a list that isn't as long has. All 40 are compared without a stop at the first that differs, so that it
+// goes by vectors.
+pub fn differs(mark: &[u32], words: &[u32; 40]) -> bool
     ensures { λ r. ⌜ r ≡ not (same (now (mark .entry)) (now (words .entry))) ⌝ }
 {
+    // Lent as a slice, so that its length is known.
+    let ws = &words[..];
+    if mark.len() != MARK {
+        return true;
+    }
     let mut other = false;
     let mut k = 0;
     while k < MARK {
-        other = other | (mark[k] != words[k]);
+        other = other | (mark[k] != ws[k]);
         k += 1;
     }
     other

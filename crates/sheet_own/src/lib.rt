@@ -9,7 +9,7 @@ ghost use Rattle.definition.specs.Buffer.{same};
 ghost use Rattle.definition.specs.Refusal.{firstOf, whenDone};
 ghost use Rattle.sheet_definition.specs.Sheet.{markWords, q};
 ghost use Rattle.sheet_definition.specs.Marks.{markAt, stateFrom, markOf};
-ghost use Rattle.sheet_definition.specs.Own.{ownRefusal, shared, compared, staleAs, kindOf, groupOf, locatedAnswer};
+ghost use Rattle.sheet_definition.specs.Own.{ownRefusal, shared, compared, staleAs, locatedAnswer};
 ghost use Rattle.sheet_definition.specs.SheetCalls.{ownOutcome};
 ghost use Rattle.sheet_definition.specs.SheetCalls.Kind.{Change, Append, Drop};
 ghost use Rattle.sheet_own.specs.Located.{turnedAway, located};
@@ -226,37 +226,28 @@ pub fn drop(
     locate(code, n, marks, owned, own, a)
 }
 
-// What was found, for C: which case, and the group, 0 where none is named.
-fn kind(found: Found) -> u64
-    ensures { λ r. ⌜ r ≡ kindOf found ⌝ }
-{
-    match found {
-        Found::Same => 0,
-        Found::Group(g) => 1,
-    }
-}
-
-fn group(found: Found) -> u64
-    ensures { λ r. ⌜ r ≡ groupOf found ⌝ }
-{
-    match found {
-        Found::Same => 0,
-        Found::Group(g) => g as u64,
-    }
-}
-
-// The answer for C.
+// The answer for C: which case was found, and the group, 0 where none is named.
 pub fn answer(a: Located) -> LocatedAnswer
     ensures { λ r. ⌜ r ≡ locatedAnswer a ⌝ }
 {
     let at = a.place;
     let found = at.found;
-    LocatedAnswer {
-        number: a.number,
-        count: a.count,
-        rounds: a.rounds,
-        kind: kind(found),
-        group: group(found),
-        pairs: at.pairs,
+    match found {
+        Found::Same => LocatedAnswer {
+            number: a.number,
+            count: a.count,
+            rounds: a.rounds,
+            kind: 0,
+            group: 0,
+            pairs: at.pairs,
+        },
+        Found::Group(g) => LocatedAnswer {
+            number: a.number,
+            count: a.count,
+            rounds: a.rounds,
+            kind: 1,
+            group: g as u64,
+            pairs: at.pairs,
+        },
     }
 }

@@ -9,10 +9,7 @@ use denote.Ref.{now}
 use borrow.Author.Needs.{needs}
 use borrow.Author.Tests.{ne-eqb, not-true, not-false}
 use lib.Dec.{eqb}
-use lib.ListN.{length, take, drop, length-drop}
-use lib.Seq.{length-take-le}
-use Rattle.definition.specs.Block.{wordsOf, wordsOfAll}
-use Rattle.definition.specs.State.{five}
+use lib.ListN.{take, drop}
 use Rattle.definition.specs.Buffer.{same}
 use Rattle.definition.specs.Refusal.{pick}
 use Rattle.sheet_definition.specs.Marks.{markAt}
@@ -25,15 +22,6 @@ use Rattle.mend.proofs.look.Tie as tie
 in-place : (m : ℕ) (marks : List ℕ) → take (40 * m + 40 - 40 * m) (drop (40 * m) marks) ≡ markAt marks m
 unfolding markAt
 in-place m marks = ap (λ (n : ℕ). take n (drop (40 * m) marks)) {x = 40 * m + 40 - 40 * m} {y = 40} (omega arith)
-
-differs-requires : tie.Need-differs-requires
-unfolding wordsOfAll five wordsOf
-differs-requires c κs =
-    let a = c .before .before .before .before .before .args in
-    let marks = now (a .marks) in (
-      length-take-le (40 * a .m + 40 - 40 * a .m) (drop (40 * a .m) marks) (omega (arith, length-drop (40 * a .m) marks)) ∙ omega arith,
-      ap length (c .before .before .before .words .ensures),
-    )
 
 -- the entry, from the comparison
 abbrev entered : tie.After-differs → tie.Start
@@ -80,4 +68,4 @@ pub look-spec : {M : Type 1} → statement M
 look-spec =
     tie.close
     (tie.spec (λ c. search needs) (λ c. search needs) (λ c κs. tt) (λ c. search needs) (λ c. search needs) (λ c. search needs) (λ c. search needs)
-    (λ c. search needs) differs-requires (λ c. search needs) returns (λ c κs. tt) (λ c. search needs) returns-2 (λ c. search needs) (λ c. search needs) returns-3)
+    (λ c κs. tt) (λ c. search needs) returns (λ c κs. tt) (λ c. search needs) returns-2 (λ c. search needs) (λ c. search needs) returns-3)

@@ -55,4 +55,4 @@ pub judge-spec : {M : Type 1} → statement M
 judge-spec =
     tie.close
     (tie.spec returns (λ c κs. tt) returns-2 (λ c κs. tt) (λ c κs. tt) (λ c κs. tt) (λ c κs. tt) (λ c κs. tt)
-    (λ c. search needs) (λ c. search needs) (λ c κs. search needs) (λ c κs. tt) returns-3)
+    (λ c. search needs) (λ c κs. tt) (λ c κs. tt) returns-3)
