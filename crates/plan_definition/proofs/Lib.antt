@@ -4,6 +4,7 @@ pub mod Exactly
 pub mod Kept
 pub mod Ranked
 pub mod Links
+pub mod Filled
 pub mod Given
 pub mod Places
 pub mod Listed

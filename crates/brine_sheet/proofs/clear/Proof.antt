@@ -1,13 +1,11 @@
 -- `brine_sheet::clear` meets its contract. The loop's invariant: the first i places of both lists are zeros.
 -- Assumes nothing.
-use mathlib.Core.Path.{_≡_, refl, sym, _∙_}
-use mathlib.Core.List.{List}
-use Prim.Native.Nat.{ℕ, _+_, _-_, _<_, _≤_}
+use mathlib.Core.Path.{_≡_, refl}
+use Prim.Native.Nat.{_-_, _≤_}
 use native.Mathlib.Omega.{arith}
 use lib.IntN.{pos}
-use lib.ListN.{length, take, set, replicate, length-set, replicate-append-replicate}
-use lib.Seq.{take-all}
-use Rattle.brine_sheet.proofs.Lists.{stored}
+use lib.ListN.{length, take, replicate, length-set}
+use Rattle.plan_definition.proofs.Filled.{filled-more, filled-all}
 use Rattle.brine_sheet.proofs.clear.Statement.{statement}
 use Rattle.brine_sheet.proofs.clear.Tie as tie
 
@@ -22,30 +20,21 @@ Inv-loop intake₀ spare₀ n i₀ intake spare i =
 abbrev μ-loop : tie.MeasureT-loop
 μ-loop intake₀ spare₀ n i₀ intake spare i = n - i
 
-module _ {A : Type 0} (a : A) (l : List A) (i : ℕ) where
-  -- one place more has it
-  more : i < length l → take i l ≡ replicate i a → take (i + 1) (set l i a) ≡ replicate (i + 1) a
-  more h e = stored l i a h ∙ rw e (replicate-append-replicate i 1 a)
-
-  -- all have it
-  all : length l ≡ i → take i l ≡ replicate i a → l ≡ replicate i a
-  all h e = sym (take-all i l (omega arith)) ∙ e
-
 loop-again : tie.Need-loop-again Inv-loop μ-loop
 loop-again c =
     let l = c .before .loop in (
       omega arith,
       simp length-set (l .inv .1),
       simp length-set (l .inv .2),
-      more 0 (l .intake) (l .i) (omega arith) (l .inv .3),
-      more (pos 0) (l .spare) (l .i) (omega arith) (l .inv .4),
+      filled-more 0 (l .intake) (l .i) (omega arith) (l .inv .3),
+      filled-more (pos 0) (l .spare) (l .i) (omega arith) (l .inv .4),
     )
 
 returns : tie.Need-returns Inv-loop μ-loop
 returns c =
     let l = c .before .loop in
     let e : l .i ≡ length (c .before .before .args .intake .now) = omega arith in
-    rw (← e) (all 0 (l .intake) (l .i) (omega arith) (l .inv .3), all (pos 0) (l .spare) (l .i) (omega arith) (l .inv .4))
+    rw (← e) (filled-all 0 (l .intake) (l .i) (omega arith) (l .inv .3), filled-all (pos 0) (l .spare) (l .i) (omega arith) (l .inv .4))
 
 pub clear-spec : {M : Type 1} → statement M
 clear-spec =
