@@ -2,15 +2,18 @@
 -- Assumes nothing.
 use mathlib.Core.Path.{_≡_, refl}
 use mathlib.Core.List.{List}
-use Prim.Native.Nat.{ℕ}
+use Prim.Native.Nat.{ℕ, _<_}
+use native.Mathlib.Decide.{decLt}
 use native.Mathlib.Omega.{arith}
-use lib.ListN.{replicate}
+use lib.Dec.{ltb, ltb→lt}
+use lib.ListN.{getD, replicate, List·getD-eq-default}
 use Rattle.definition.specs.Buffer.{joined}
+use Rattle.definition.proofs.Cases.{at-below}
 use Rattle.plan_definition.specs.Well.{wells}
 use Rattle.plan_definition.proofs.Places.{wellAt}
 use Rattle.reach_definition.specs.Chain.{Joined}
 use Rattle.reach_definition.proofs.Outcomes.{given}
-use Rattle.reach_definition.proofs.Marked.{byteAfter, named-well, marked-exactly, more-hops, both-ways}
+use Rattle.reach_definition.proofs.Marked.{byteAfter, Named, named-well, marked-exactly, number-whole, more-hops, both-ways}
 use Rattle.reach_definition.proofs.Examples.{row}
 use Rattle.reach_definition.proofs.Computed.{everything}
 
@@ -39,3 +42,15 @@ marked-still = more-hops sheet 5 1 2 3 (replicate 5 9) (omega arith) (omega arit
 pub marked-back : byteAfter sheet 5 3 2 (replicate 5 9) 3 ≡ 1
 unfolding everything joined
 marked-back = both-ways sheet 5 2 (replicate 5 9) 3 0 (omega arith) (omega arith) refl refl .1
+
+-- its bytes are bytes, so 65,539 names nobody, and not producer 3: number-whole
+line-bytes : (i : ℕ) → getD sheet i 0 < 256
+unfolding joined
+line-bytes i =
+    elim (decLt i 200) [
+      | yes h ↦ ltb→lt _ 256 (at-below 200 (λ i. ltb (getD sheet i 0) 256) tt i h)
+      | no h ↦ rw (List·getD-eq-default sheet 0 {n = i} (omega arith)) (omega arith)
+    ]
+
+pub nobody : Named sheet 5 65539 → ⊥
+nobody = number-whole sheet 5 65539 line-bytes (omega arith)
