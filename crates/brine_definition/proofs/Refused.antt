@@ -34,18 +34,18 @@ module _ (sheets : ℕ) (counts : List ℕ) (intake spare : ℕ) where
 
   pub too-many : (number ≡ 13) ↔ TooMany counts
   unfolding brineRefusals
-  too-many = is-first 12 (its-own ((λ e. omega arith), ((λ e. omega arith), tt)) (less 64 (length counts)))
+  too-many = is-first 12 (its-own (omega arith) (less 64 (length counts)))
 
   pub no-room : (number ≡ 5) ↔ (Few counts × NoRoom sheets counts)
   unfolding brineRefusals
   no-room =
-      is-first 4 (another (λ e. omega arith) few (its-own ((λ e. omega arith), tt)
+      is-first 4 (another (omega arith) few (its-own (omega arith)
       (either (one-passes counts (less 1024)) (less sheets (40 * sum counts)))))
 
   pub short : (number ≡ 25) ↔ (Few counts × (Room sheets counts × Short counts intake spare))
   unfolding brineRefusals
   short =
-      is-first 24 (another (λ e. omega arith) few (another (λ e. omega arith) room (its-own tt
+      is-first 24 (another (omega arith) few (another (omega arith) room (its-own tt
       (either (less intake (sum counts)) (less spare (sum counts))))))
 
   pub none-refused : (number ≡ 0) ↔ (Few counts × (Room sheets counts × Long counts intake spare))

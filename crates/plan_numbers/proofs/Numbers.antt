@@ -52,8 +52,8 @@ set-adds k t h j =
       | no e ↦ rw (getD-set-other t (k / 64) (j / 64) _ 0 e, ne-eqb k j (λ n. e (omega arith)))
     ]
 
--- a table of zeros, for callers: an empty set
-none-at : (n i : ℕ) → getD {A = ℕ} (replicate n 0) i 0 ≡ 0
+-- zeros, and a table of them, for callers: an empty set
+pub none-at : (n i : ℕ) → getD {A = ℕ} (replicate n 0) i 0 ≡ 0
 none-at zero i = refl
 none-at (suc n) zero = refl
 none-at (suc n) (suc i) = none-at n i

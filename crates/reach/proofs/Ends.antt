@@ -9,7 +9,7 @@ use native.Mathlib.Decide.{ℕ-discrete}
 use native.Mathlib.Omega.{arith}
 use borrow.Author.Tests.{eqb-true, eq-eqb}
 use lib.Dec.{eqb}
-use lib.ListN.{length, getD, set, replicate, length-replicate, getD-replicate}
+use lib.ListN.{length, getD, set, replicate, length-replicate}
 use lib.Seq.{getD-set-same, getD-set-other}
 use Rattle.definition.specs.Refusal.{pick}
 use Rattle.plan_definition.specs.declared.Well.{Well}
@@ -19,7 +19,7 @@ use Rattle.plan_definition.proofs.Exactly.{Passes}
 use Rattle.plan_definition.proofs.Places.{wellAt}
 use Rattle.plan_definition.proofs.Listed.{column}
 use Rattle.plan_numbers.specs.Numbers.{has, plus}
-use Rattle.plan_numbers.proofs.Numbers.{none-has}
+use Rattle.plan_numbers.proofs.Numbers.{none-at, none-has}
 use Rattle.reach_definition.specs.Chain.{Joined}
 use Rattle.reach_definition.specs.Reach.{joined, marks}
 use Rattle.reach_definition.proofs.Chains.{joined-itself, joined-none}
@@ -31,10 +31,6 @@ use Rattle.reach.proofs.Wells.{either-kind, at-among, at-each}
 use Rattle.reach.proofs.Levels.{to-injectors, to-producers, first-turn, touches-injector, touches-other, byte-one, byte-bit}
 
 module _ {sheet : List ℕ} {n : ℕ} (s : Searched sheet n) where
-  zero-at : (w : Well) → Among w (wells n sheet) → getD {A = ℕ} (replicate n 0) (w .place) 0 ≡ 0
-  unfolding wellOf
-  zero-at = at-each sheet n (λ w. getD {A = ℕ} (replicate n 0) (w .place) 0 ≡ 0) (λ p h. getD-replicate {A = ℕ} n p 0 0 h)
-
   module _ (place : ℕ) (h : place < n) where
     abbrev from : Well
     from = wellAt place sheet
@@ -47,11 +43,11 @@ module _ {sheet : List ℕ} {n : ℕ} (s : Searched sheet n) where
     unfolding wellOf
     producer-start e = record {
       bits = at-each sheet n (λ w. (getD bytes (w .place) 0 ≡ 0) ⊎ (getD bytes (w .place) 0 ≡ 1)) (λ p l.
-          elim (ℕ-discrete p place) [ yes d ↦ inr (rw d same) | no d ↦ inl (other p l d) ]);
+          elim (ℕ-discrete p place) [ yes d ↦ inr (rw d same) | no d ↦ inl (other p d) ]);
       producers = at-each sheet n (λ w. (getD bytes (w .place) 0 ≡ 1) ↔ JoinedProducer (wells n sheet) 0 from w) (λ p l.
           elim (ℕ-discrete p place) [
             | yes d ↦ rw d (λ b. (e, joined-itself), λ j. same)
-            | no d ↦ (λ b. absurd (omega (arith, b, other p l d)), λ j. absurd (d (ap (λ (w : Well). w .place) (joined-none (j .1)))))
+            | no d ↦ (λ b. absurd (omega (arith, b, other p d)), λ j. absurd (d (ap (λ (w : Well). w .place) (joined-none (j .1)))))
           ]);
       injectors = λ k. (λ t. absurd (false≢true (sym (none-has 1024 k) ∙ t)), λ p. absurd (omega (arith, e, p .3, ap (λ (w : Well). w .kind) (joined-none (p .4)))));
     }
@@ -59,16 +55,16 @@ module _ {sheet : List ℕ} {n : ℕ} (s : Searched sheet n) where
         same : getD bytes place 0 ≡ 1
         same = getD-set-same (replicate n 0) place 1 0 (omega (arith, length-replicate {A = ℕ} n 0, h))
 
-        other : (p : ℕ) → p < n → (p ≡ place → ⊥) → getD bytes p 0 ≡ 0
-        other p l d = getD-set-other (replicate n 0) place p 1 0 d ∙ getD-replicate {A = ℕ} n p 0 0 l
+        other : (p : ℕ) → (p ≡ place → ⊥) → getD bytes p 0 ≡ 0
+        other p d = getD-set-other (replicate n 0) place p 1 0 d ∙ none-at n p
 
     -- an injector is taken and no producer marked
     pub injector-start : from .kind ≡ 2 → (t : List ℕ) → has t ≡ plus (from .number) (has (replicate 1024 0))
         → Level (wells n sheet) from 0 (replicate n 0) (has t)
     unfolding plus
     injector-start e t f = record {
-      bits = λ w m. inl (zero-at w m);
-      producers = λ w m. (λ b. absurd (omega (arith, b, zero-at w m)), λ p. absurd (omega (arith, e, p .0, ap (λ (v : Well). v .kind) (joined-none (p .1)))));
+      bits = λ w m. inl (none-at n (w .place));
+      producers = λ w m. (λ b. absurd (omega (arith, b, none-at n (w .place))), λ p. absurd (omega (arith, e, p .0, ap (λ (v : Well). v .kind) (joined-none (p .1)))));
       injectors = λ k. rw f (rw (none-has 1024 k, or-false (eqb (from .number) k))
           (λ b. (from, at-among s h, eqb-true (from .number) k b, e, joined-itself), λ p. eq-eqb (from .number) k (ap (λ (v : Well). v .number) (sym (joined-none (p .4))) ∙ p .2)));
     }

@@ -58,30 +58,30 @@ module _ (sheet : List ℕ) (n k hops reached : ℕ) where
   pub no-room : (number ≡ 5) ↔ NoRoom n (length sheet)
   unfolding reachRefusals sheetRefusal
   no-room =
-      is-first 4 (its-own ((λ e. omega arith), ((λ e. omega arith), ((λ e. omega arith), ((λ e. omega arith), tt))))
+      is-first 4 (its-own (omega arith)
       (either (less 1024 n) (less (length sheet) (40 * n))))
 
   pub too-far : (number ≡ 19) ↔ (Room n (length sheet) × (3 < hops))
   unfolding reachRefusals sheetRefusal
-  too-far = is-first 18 (another (λ e. omega arith) room (its-own ((λ e. omega arith), ((λ e. omega arith), ((λ e. omega arith), tt))) (less 3 hops)))
+  too-far = is-first 18 (another (omega arith) room (its-own (omega arith) (less 3 hops)))
 
   pub unsound : (number ≡ 20) ↔ (Room n (length sheet) × ((hops ≤ 3) × (Sound ws → ⊥)))
   unfolding reachRefusals sheetRefusal
   unsound =
-      is-first 19 (another (λ e. omega arith) room (another (λ e. omega arith) near (its-own ((λ e. omega arith), ((λ e. omega arith), tt))
+      is-first 19 (another (omega arith) room (another (omega arith) near (its-own (omega arith)
       (other-way (not (sound ws)) makes-sense))))
 
   pub absent : (number ≡ 21) ↔ (Room n (length sheet) × ((hops ≤ 3) × (Sound ws × Absent ws k)))
   unfolding reachRefusals sheetRefusal hasNumber
   absent =
-      is-first 20 (another (λ e. omega arith) room (another (λ e. omega arith) near (another (λ e. omega arith) makes-sense
-      (its-own ((λ e. omega arith), tt) (not-passes (none-passes ws (λ w. not-equal (w .number) k)))))))
+      is-first 20 (another (omega arith) room (another (omega arith) near (another (omega arith) makes-sense
+      (its-own (omega arith) (not-passes (none-passes ws (λ w. not-equal (w .number) k)))))))
 
   pub short : (number ≡ 22) ↔ (Room n (length sheet) × ((hops ≤ 3) × (Sound ws × (There ws k × (reached < n)))))
   unfolding reachRefusals sheetRefusal
   short =
-      is-first 21 (another (λ e. omega arith) room (another (λ e. omega arith) near (another (λ e. omega arith) makes-sense
-      (another (λ e. omega arith) there (its-own tt (less reached n))))))
+      is-first 21 (another (omega arith) room (another (omega arith) near (another (omega arith) makes-sense
+      (another (omega arith) there (its-own tt (less reached n))))))
 
   pub none-refused : (number ≡ 0) ↔ (Room n (length sheet) × ((hops ≤ 3) × (Sound ws × (There ws k × (n ≤ reached)))))
   unfolding reachRefusals sheetRefusal
