@@ -16,6 +16,10 @@ pub fn every_set<C: Clone>(
     ways: &[(u64, &[Way<C>])],
     answers: impl Fn(C, u64),
 ) {
+    for number in order {
+        let met = ways.iter().any(|(met, _)| met == number);
+        assert!(met, "there is no way to meet {number}");
+    }
     let most = ways.iter().map(|(_, ways)| ways.len()).max().unwrap();
     let sets = 0..1 << ways.len();
     for (set, way) in sets.flat_map(|set| (0..most).map(move |way| (set, way))) {

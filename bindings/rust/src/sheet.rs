@@ -13,6 +13,8 @@ mod history;
 mod mend;
 mod opened;
 #[cfg(test)]
+mod saves;
+#[cfg(test)]
 mod tests;
 
 pub use mend::Mended;

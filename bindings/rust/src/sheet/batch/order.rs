@@ -4,6 +4,7 @@ use crate::order::{MAX, WIDE, Way, every_set};
 use crate::random::Numbers;
 use crate::sheet::held::Held;
 use crate::sheet::history::Plain;
+use crate::sheet::saves::{self, Save};
 use crate::sheet::tests::sheet;
 use crate::{Code, ffi};
 
@@ -53,45 +54,21 @@ impl Call {
     }
 }
 
+impl Save for Call {
+    fn held(&mut self) -> &mut Held {
+        &mut self.held
+    }
+
+    fn claim(&mut self) -> &mut Vec<u8> {
+        &mut self.claim
+    }
+}
+
 /// The order in which they are judged.
 const ORDER: [u64; 9] = [1, 2, 5, 6, 14, 7, 9, 10, 11];
 
-/// Ways to meet each, for three changes or more.
-const WAYS: [(u64, &[Way<Call>]); 9] = [
-    (
-        1,
-        &[
-            |c| c.held.code = 0,
-            |c| c.held.code = 5,
-            |c| c.held.code += WIDE,
-            |c| c.held.code = MAX,
-        ],
-    ),
-    (
-        2,
-        &[
-            |c| c.held.out.clear(),
-            |c| c.held.out.truncate(c.claim.len() - 1),
-        ],
-    ),
-    (
-        6,
-        &[
-            |c| c.held.marks.clear(),
-            |c| c.held.marks.truncate(40 * (c.held.n / 4)),
-            |c| c.held.marks.truncate(40 * (c.held.n / 4) + 39),
-        ],
-    ),
-    (
-        5,
-        &[
-            |c| c.held.sheet.truncate(40 * c.held.n - 1),
-            |c| c.held.sheet.clear(),
-            |c| c.held.n = 1025,
-            |c| c.held.n += WIDE,
-            |c| c.held.n = MAX,
-        ],
-    ),
+/// Ways to meet those that not every save has, for three changes or more.
+const WAYS: [(u64, &[Way<Call>]); 3] = [
     (
         7,
         &[
@@ -122,28 +99,14 @@ const WAYS: [(u64, &[Way<Call>]); 9] = [
             |c| c.records.clear(),
         ],
     ),
-    (
-        11,
-        &[
-            |c| c.claim[0] ^= 0x80,
-            |c| *c.claim.last_mut().unwrap() ^= 1,
-        ],
-    ),
-    (
-        10,
-        &[
-            |c| c.claim.push(0),
-            |c| c.claim.truncate(c.claim.len() - 1),
-            |c| c.claim.clear(),
-        ],
-    ),
 ];
 
 #[test]
 fn every_set_of_refusals() {
+    let ways = [&saves::ways()[..], &WAYS].concat();
     for code in Code::ALL {
         let calls = [8, 9, 10, 11].map(|n| Call::new(code, n, [1, 4, 6]));
-        every_set(&calls, &ORDER, &WAYS, Call::answers);
+        every_set(&calls, &ORDER, &ways, Call::answers);
     }
 }
 
@@ -154,8 +117,8 @@ fn no_change() {
         for n in 0..=4 {
             let call = Call::new(code, n, []);
             call.clone().answers(0);
-            for (number, ways) in WAYS {
-                if [1, 2, 6, 10, 11].contains(&number) {
+            for (number, ways) in saves::ways() {
+                if number != 5 {
                     for way in ways {
                         let mut call = call.clone();
                         way(&mut call);

@@ -4,6 +4,7 @@ use super::Sheet;
 use super::order::Call;
 use crate::order::{MAX, WIDE};
 use crate::sheet::history::Plain;
+use crate::sheet::saves;
 use crate::sheet::tests::sheet;
 use crate::{Code, Digest, Error};
 
@@ -107,16 +108,7 @@ fn wrong_claims() {
     for code in Code::ALL {
         for places in [&[][..], &[2, 5]] {
             let call = Call::new(code, 7, places.iter().copied());
-            for bit in 0..8 * code.digest_bytes() {
-                let mut call = call.clone();
-                call.claim[bit / 8] ^= 1 << (bit % 8);
-                call.answers(11);
-            }
-            for bytes in (0..=70).filter(|bytes| *bytes != code.digest_bytes()) {
-                let mut call = call.clone();
-                call.claim.resize(bytes, 0);
-                call.answers(10);
-            }
+            saves::wrong_claims(call, Call::answers);
         }
     }
 }

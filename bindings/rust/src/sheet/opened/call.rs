@@ -5,6 +5,7 @@ use super::tests::{Kind, told};
 use crate::Error;
 use crate::ffi::{self, Own};
 use crate::sheet::held::Held;
+use crate::sheet::saves::Save;
 
 /// A call, with all that it is lent.
 #[derive(Clone)]
@@ -87,5 +88,15 @@ impl Call {
             assert_eq!(answer, wanted);
             assert!(self.held == before.held, "written");
         }
+    }
+}
+
+impl Save for Call {
+    fn held(&mut self) -> &mut Held {
+        &mut self.held
+    }
+
+    fn claim(&mut self) -> &mut Vec<u8> {
+        &mut self.claim
     }
 }

@@ -5,6 +5,7 @@ use super::call::Call;
 use super::tests::Kind;
 use crate::Code;
 use crate::order::{MAX, WIDE, Way, every_set};
+use crate::sheet::saves;
 use crate::sheet::tests::sheet;
 
 // Ways to meet what each kind of save alone is refused for. They come before the others.
@@ -19,48 +20,8 @@ const NO_ROOM: &[Way<Call>] = &[
 ];
 const NO_RECORD: &[Way<Call>] = &[|c| c.held.n = 0];
 
-/// Ways to meet the others.
-const WAYS: [(u64, &[Way<Call>]); 8] = [
-    (
-        1,
-        &[
-            |c| c.held.code = 0,
-            |c| c.held.code = 5,
-            |c| c.held.code += WIDE,
-            |c| c.held.code = MAX,
-        ],
-    ),
-    (
-        2,
-        &[
-            |c| c.held.out.clear(),
-            |c| c.held.out.truncate(c.claim.len() - 1),
-        ],
-    ),
-    (
-        6,
-        &[
-            |c| c.held.marks.clear(),
-            |c| c.held.marks.truncate(40 * (c.held.n / 4)),
-            |c| c.held.marks.truncate(40 * (c.held.n / 4) + 39),
-        ],
-    ),
-    (
-        5,
-        &[
-            |c| {
-                c.held.n = c.held.n.max(1);
-                c.held.sheet.truncate(40 * c.held.n - 1);
-            },
-            |c| {
-                c.held.n = c.held.n.max(1);
-                c.held.sheet.clear();
-            },
-            |c| c.held.n = 1025,
-            |c| c.held.n += WIDE,
-            |c| c.held.n = MAX,
-        ],
-    ),
+/// Ways to meet the others that not every save has.
+const WAYS: [(u64, &[Way<Call>]); 2] = [
     (
         9,
         &[
@@ -68,21 +29,6 @@ const WAYS: [(u64, &[Way<Call>]); 8] = [
             |c| c.record.truncate(39),
             |c| c.record.clear(),
             |c| c.record.extend([1; 40]),
-        ],
-    ),
-    (
-        11,
-        &[
-            |c| c.claim[0] ^= 0x80,
-            |c| *c.claim.last_mut().unwrap() ^= 1,
-        ],
-    ),
-    (
-        10,
-        &[
-            |c| c.claim.push(0),
-            |c| c.claim.truncate(c.claim.len() - 1),
-            |c| c.claim.clear(),
         ],
     ),
     (
@@ -109,6 +55,7 @@ fn every_set_of_refusals() {
     ] {
         let ways: Vec<_> = [(order[4], own)]
             .into_iter()
+            .chain(saves::ways())
             .chain(WAYS)
             .filter(|(number, _)| order.contains(number))
             .collect();

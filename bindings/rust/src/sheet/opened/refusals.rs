@@ -5,6 +5,7 @@ use super::call::Call;
 use super::tests::{Kind, told};
 use super::{Opened, Sheet};
 use crate::order::{MAX, WIDE};
+use crate::sheet::saves;
 use crate::sheet::tests::sheet;
 use crate::{Code, Digest, Error};
 
@@ -90,17 +91,7 @@ fn wrong_claims() {
     for code in Code::ALL {
         let (held, own) = (sheet(code, 7), sheet(code, 6));
         for kind in Kind::of(7) {
-            let call = Call::new(kind, &held, &own);
-            for bit in 0..8 * code.digest_bytes() {
-                let mut call = call.clone();
-                call.claim[bit / 8] ^= 1 << (bit % 8);
-                call.answers(11);
-            }
-            for bytes in (0..=70).filter(|bytes| *bytes != code.digest_bytes()) {
-                let mut call = call.clone();
-                call.claim.resize(bytes, 0);
-                call.answers(10);
-            }
+            saves::wrong_claims(Call::new(kind, &held, &own), Call::answers);
         }
     }
 }
