@@ -8,7 +8,7 @@ use native.Mathlib.Omega.{arith}
 use lib.IntN.{ℤ, pos, negℤ}
 use lib.ListN.{getD, replicate}
 use Rattle.definition.specs.Buffer.{joined}
-use Rattle.sheet_definition.specs.Run.{cut}
+use Rattle.sheet_definition.specs.Sheet.{cut}
 use Rattle.plan_definition.specs.Well.{wells}
 use Rattle.plan_definition.proofs.Examples.{well}
 use Rattle.plan_definition.proofs.Instances.{plan, plan-sound}

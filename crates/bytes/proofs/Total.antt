@@ -34,8 +34,8 @@ writeAt-more i j p v l e h =
     (overwriteAt-more i j p v l (omega arith) e)
 
 -- nothing written
-pub write-none : (i : ℕ) (l : List ℕ) → i ≤ length l → writeAt i [] l ≡ l
-write-none i l h = write-at i [] l (omega arith) ∙ overwriteAt-none i l h
+pub write-none : (i : ℕ) (l : List ℕ) → writeAt i [] l ≡ l
+write-none i l = elim (decLe (i + 0) (length l)) [ yes h ↦ write-at i [] l h ∙ overwriteAt-none i l | no h ↦ write-not i [] l (omega arith) ]
 
 pub length-writeAt : (i : ℕ) (p l : List ℕ) → length (writeAt i p l) ≡ length l
 length-writeAt i p l =

@@ -33,9 +33,9 @@ length-overwriteAt i p l h =
     )
 
 -- nothing written
-pub overwriteAt-none : (i : ℕ) (l : List ℕ) → i ≤ length l → overwriteAt i [] l ≡ l
+pub overwriteAt-none : (i : ℕ) (l : List ℕ) → overwriteAt i [] l ≡ l
 unfolding overwriteAt
-overwriteAt-none i l h = rw (add-zero i, append-nil (take i l)) (take-append-drop i l)
+overwriteAt-none i l = rw (add-zero i, append-nil (take i l)) (take-append-drop i l)
 
 -- before and after a piece written from place i on, the elements are as they were
 pub take-overwriteAt : (i j : ℕ) (p l : List ℕ) → j ≤ i → i ≤ length l → take j (overwriteAt i p l) ≡ take j l

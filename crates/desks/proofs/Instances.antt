@@ -6,10 +6,10 @@ use mathlib.Core.List.{List, [], _∷_}
 use Prim.Native.Nat.{ℕ, _+_}
 use native.Mathlib.Omega.{arith}
 use lib.ListN.{replicate}
-use Rattle.sheet_definition.specs.Sheet.{World}
+use Rattle.sheet_definition.specs.Sheet.{World, cut}
 use Rattle.sheet_definition.specs.Save.{SheetOutcome, doneWith}
 use Rattle.sheet_definition.specs.SheetCalls.{buildOutcome, Call, call}
-use Rattle.sheet_definition.specs.Run.{left, cut}
+use Rattle.sheet_definition.specs.Run.{left}
 use Rattle.sheet_definition.specs.Said.{Stands}
 use Rattle.sheet_definition.proofs.Computed.{everything}
 use Rattle.sheet_definition.proofs.Build.{build-laid}

@@ -7,10 +7,10 @@ use Prim.Native.Nat.{ℕ}
 use native.Mathlib.Omega.{arith}
 use lib.ListN.{take, drop, replicate}
 use Rattle.definition.specs.Buffer.{same}
-use Rattle.sheet_definition.specs.Sheet.{World, groupBytes}
+use Rattle.sheet_definition.specs.Sheet.{World, groupBytes, cut}
 use Rattle.sheet_definition.specs.Own.{used}
 use Rattle.sheet_definition.specs.SheetCalls.{buildOutcome}
-use Rattle.sheet_definition.specs.Run.{left, cut}
+use Rattle.sheet_definition.specs.Run.{left}
 use Rattle.sheet_definition.specs.Said.{Stands}
 use Rattle.sheet_definition.proofs.Computed.{everything}
 use Rattle.sheet_definition.proofs.Writes.{same-refl}

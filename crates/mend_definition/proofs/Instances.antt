@@ -9,10 +9,10 @@ use lib.ListN.{replicate, set}
 use Rattle.definition.specs.Luffa.{wordsAt, bytesAt, luffa}
 use Rattle.definition.specs.Buffer.{joined}
 use Rattle.definition.specs.Refusal.{firstOf}
-use Rattle.sheet_definition.specs.Sheet.{World}
+use Rattle.sheet_definition.specs.Sheet.{World, cut}
 use Rattle.sheet_definition.specs.Marks.{TrueMark, TrueMarks}
 use Rattle.sheet_definition.specs.SheetCalls.{buildOutcome, Call, saveOf, call, changing, lent}
-use Rattle.sheet_definition.specs.Run.{run, records, cut}
+use Rattle.sheet_definition.specs.Run.{run, records}
 use Rattle.sheet_definition.specs.Said.{Stands}
 use Rattle.mend_definition.specs.Mend.{saying, mend}
 use Rattle.mend_definition.specs.Said.{Says, openingNumber, opened}

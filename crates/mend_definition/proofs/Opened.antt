@@ -8,11 +8,11 @@ use native.Mathlib.Omega.{arith}
 use borrow.Author.Tests.{le-ltb}
 use lib.ListN.{length}
 use Rattle.definition.specs.Refusal.{DONE, pick, firstOf, widthRefusal}
-use Rattle.sheet_definition.specs.Sheet.{World, most, recordBytes, markWords, q}
+use Rattle.sheet_definition.specs.Sheet.{World, most, recordBytes, markWords, q, cut}
 use Rattle.sheet_definition.specs.Marks.{held, markOf, stateAfter}
 use Rattle.sheet_definition.specs.Refusals.{sheetRefusal, marksRefusal}
 use Rattle.sheet_definition.specs.SheetCalls.{Call}
-use Rattle.sheet_definition.specs.Run.{left, run, records, cut}
+use Rattle.sheet_definition.specs.Run.{left, run, records}
 use Rattle.sheet_definition.specs.Said.{Stands, Laid, After}
 use Rattle.sheet_definition.proofs.Writes.{same-refl}
 use Rattle.sheet_definition.proofs.Saves.{built-true}

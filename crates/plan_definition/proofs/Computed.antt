@@ -1,7 +1,7 @@
 -- The line `unfolding everything` opens all definitions of the check, so that the checker computes them.
 use Rattle.definition.specs.Refusal.{pick, firstOf, whenDone}
 use Rattle.sheet_definition.specs.Refusals.{sheetRefusal}
-use Rattle.sheet_definition.specs.Run.{cut}
+use Rattle.sheet_definition.specs.Sheet.{cut}
 use Rattle.plan_definition.specs.Some.{some}
 use Rattle.plan_definition.specs.Well.{two, four, linkAt, wellOf, wellsFrom, wells}
 use Rattle.plan_definition.specs.Rules.{producer, injector, used, unused, breaksNumber, breaksKind, differ, breaksLinkCount, breaksRate, namesSame, misnamed, breaksLinks, noShare, total, breaksShares, notZero, breaksUnusedLinks, breaksRepeat, isInjectorOf, isBefore, rulesBy, rulesAt}

@@ -6,7 +6,7 @@ use Prim.Native.Nat.{ℕ, zero, suc, _+_, _*_, _<_}
 use native.Mathlib.Omega.{arith}
 use lib.ListN.{length, getD, take, drop, drop-of-length-le}
 use lib.Seq.{drop-drop, drop-cons, getD-take, getD-drop}
-use Rattle.sheet_definition.specs.Run.{cut}
+use Rattle.sheet_definition.specs.Sheet.{cut}
 use Rattle.sheet_definition.proofs.Joined.{length-cut}
 use Rattle.plan_definition.specs.declared.Well.{Well}
 use Rattle.plan_definition.specs.Well.{two, wellOf, wellsFrom, wells}

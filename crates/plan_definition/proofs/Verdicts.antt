@@ -10,7 +10,7 @@ use lib.Dec.{ltb}
 use lib.ListN.{length}
 use Rattle.definition.specs.Refusal.{SHEET, pick, firstOf, whenDone}
 use Rattle.sheet_definition.specs.Refusals.{sheetRefusal}
-use Rattle.sheet_definition.specs.Run.{cut}
+use Rattle.sheet_definition.specs.Sheet.{cut}
 use Rattle.plan_definition.specs.declared.Well.{Well}
 use Rattle.plan_definition.specs.declared.Rule.{Rule}
 use Rattle.plan_definition.specs.declared.Verdict.{Verdict}

@@ -2,13 +2,13 @@
 -- Assumes nothing.
 use mathlib.Core.Path.{_≡_}
 use mathlib.Core.List.{List, [], _∷_}
-use Prim.Native.Nat.{ℕ, _+_, _*_, _<_, _≤_}
+use Prim.Native.Nat.{ℕ, _+_, _<_}
 use native.Mathlib.Nat.{zero-add}
 use native.Mathlib.Omega.{arith}
 use lib.ListN.{length, getD}
 use Rattle.definition.specs.Buffer.{overwrite}
 use Rattle.definition.specs.Refusal.{pick}
-use Rattle.sheet_definition.specs.Sheet.{World, markWords, q}
+use Rattle.sheet_definition.specs.Sheet.{World, q}
 use Rattle.sheet_definition.specs.Marks.{worked}
 use Rattle.sheet_definition.specs.Save.{doneWith, checked, reworked, roundsBefore}
 use Rattle.sheet_definition.specs.SheetCalls.{writtenAt, lowest, some, manyRecords, editOf, saveOf, batching}
@@ -16,14 +16,14 @@ use Rattle.sheet_definition.proofs.Writes.{check-leaves}
 use Rattle.sheet_definition.proofs.Outcomes.{accepted}
 
 -- without a place: what the check found
-pub none-done : (w : World) (places x claim out : List ℕ) (rounds : ℕ) (out' : List ℕ) → length places ≡ 0 → markWords * (q (w .n) + 1) ≤ length (w .marks)
+pub none-done : (w : World) (places x claim out : List ℕ) (rounds : ℕ) (out' : List ℕ) → length places ≡ 0
     → rounds ≡ checked w .rounds → out' ≡ overwrite claim out → claim ≡ checked w .digest
     → record { answer = record { number = 0; count = w .n; rounds = rounds }; sheet = w .sheet; marks = w .marks; out = out' }
     ≡ accepted w (saveOf w (batching places x claim out))
 unfolding doneWith reworked roundsBefore checked pick saveOf editOf manyRecords lowest some writtenAt
-none-done w (p ∷ ps) x claim out rounds out' z r e o d = absurd (omega arith)
-none-done w [] x claim out rounds out' z r e o d =
-    rw (e, o, d, check-leaves (w .code) (w .n) (w .sheet) (w .marks) r, zero-add (worked (w .code) (w .n) (w .sheet) (w .marks) (q (w .n)) .rounds))
+none-done w (p ∷ ps) x claim out rounds out' z e o d = absurd (omega arith)
+none-done w [] x claim out rounds out' z e o d =
+    rw (e, o, d, check-leaves (w .code) (w .n) (w .sheet) (w .marks), zero-add (worked (w .code) (w .n) (w .sheet) (w .marks) (q (w .n)) .rounds))
 
 -- with one or more: the records written, and the work from the group of the first
 pub some-done : (w : World) (places x claim out : List ℕ) (before rounds : ℕ) (sheet marks' out' : List ℕ) → 0 < length places

@@ -8,11 +8,11 @@ use native.Mathlib.Omega.{arith}
 use Rattle.definition.specs.Luffa.{luffa}
 use Rattle.definition.specs.Buffer.{overwrite}
 use Rattle.definition.specs.Refusal.{firstOf}
-use Rattle.sheet_definition.specs.Sheet.{World, q}
+use Rattle.sheet_definition.specs.Sheet.{World, q, cut}
 use Rattle.sheet_definition.specs.Marks.{held}
 use Rattle.sheet_definition.specs.Save.{refusedWith, doneWith}
 use Rattle.sheet_definition.specs.SheetCalls.{Call, staleNumberOf, saveOf, call}
-use Rattle.sheet_definition.specs.Run.{left, next, run, applied, records, cut}
+use Rattle.sheet_definition.specs.Run.{left, next, run, applied, records}
 use Rattle.sheet_definition.specs.Said.{Stale, Stands, Laid, Stays, After}
 use Rattle.sheet_definition.proofs.Outcomes.{stale-answers, accepted, by-answer, given, refused-untouched}
 use Rattle.sheet_definition.proofs.Saves.{Made, save-rounds, save-stays, save-marks, past-stays, built-true, save-made, save-built, save-freed, save-accepted, save-stale}

@@ -4,63 +4,31 @@ use mathlib.Core.Path.{_≡_, refl, sym, _∙_}
 use mathlib.Core.Bool.{true, false≢true}
 use mathlib.Core.List.{List, [], _∷_, append-nil}
 use Prim.Native.Nat.{ℕ, _+_, _-_, _*_, _<_, _≤_}
-use native.Mathlib.Decide.{ℕ-discrete}
 use native.Mathlib.Omega.{arith}
 use lib.ListN.{length, replicate, length-append, length-replicate}
 use lib.Seq.{length-take-le, take-take}
-use borrow.Author.Tests.{eq-eqb, ne-eqb}
 use Rattle.definition.specs.Luffa.{bytesAt}
-use Rattle.definition.specs.Buffer.{Every, overwriteAt, joined}
-use Rattle.definition.specs.Refusal.{Refusal, PLACE, FULL, SIZE, CLAIM, SET, pick, firstOf, conditionOf, rising}
-use Rattle.sheet_definition.specs.Sheet.{World, recordBytes, markWords, q, r}
+use Rattle.definition.specs.Buffer.{Every, joined}
+use Rattle.definition.specs.Refusal.{Refusal, PLACE, FULL, SIZE, CLAIM, SET, firstOf, conditionOf, rising}
+use Rattle.sheet_definition.specs.Sheet.{World, recordBytes, q}
 use Rattle.sheet_definition.specs.declared.Found.{Found}
 use Rattle.sheet_definition.specs.declared.Found.the-variants.{Same, Group}
 use Rattle.sheet_definition.specs.Own.{Own, ownRefusal, withOwn, staleAs, stale}
 use Rattle.sheet_definition.specs.Own.Own.{None, Brought}
 use Rattle.sheet_definition.specs.Refusals.{lengthsOf, claimRefusal, mostChanges}
-use Rattle.sheet_definition.specs.Marks.{held, markAt}
-use Rattle.sheet_definition.specs.SheetCalls.{Kind, Call, comparing, staleNumberOf, refusalsOf, oneRecord, withoutLast, lowest, pastHighest, manyRecords, editOf, saveOf}
+use Rattle.sheet_definition.specs.Marks.{held}
+use Rattle.sheet_definition.specs.SheetCalls.{Kind, Call, comparing, staleNumberOf, refusalsOf, oneRecord, pastLast, lowest, pastHighest, manyRecords, editOf, saveOf}
 use Rattle.sheet_definition.specs.SheetCalls.Kind.{Change, Append, Drop, Batch}
 use Rattle.sheet_definition.specs.Run.{listAfter}
 use Rattle.sheet_definition.specs.Said.{Stale, Stands}
 use Rattle.definition.proofs.Every.{every-take, every-append}
-use Rattle.definition.proofs.Buffer.{length-overwriteAt, take-overwriteAt, drop-overwriteAt}
+use Rattle.definition.proofs.Buffer.{take-overwriteAt}
 use Rattle.definition.proofs.Refusals.{Numbered, fails, in-turn, first-done}
 use Rattle.sheet_definition.proofs.Joined.{Listed, listed-by, listed-set, joined-append, joined-take, take-added}
 use Rattle.sheet_definition.proofs.Many.{Below, none-past, within, lowest-held, highest-held, kept, listed-in-turn}
-use Rattle.sheet_definition.proofs.Writes.{Rewritten}
 use Rattle.sheet_definition.proofs.Refused.{Fits, fits, place-held, one-more, set-rises, records-sized, claim-sized, judging}
-use Rattle.sheet_definition.proofs.Fair.{Fair, Proper, read-written, one-fair}
-
--- "When r = 0 it zeroes mark q.", and else none
-pub zeroes : (n : ℕ) (marks : List ℕ) → r n ≡ 0 → withoutLast n marks ≡ overwriteAt (markWords * q n) (replicate markWords 0) marks
-unfolding withoutLast pick
-zeroes n marks e = rw (eq-eqb (r n) 0 e)
-
-pub zeroes-none : (n : ℕ) (marks : List ℕ) → (r n ≡ 0 → ⊥) → withoutLast n marks ≡ marks
-unfolding withoutLast pick
-zeroes-none n marks e = rw (ne-eqb (r n) 0 e)
-
--- so the marks up to that of the last record's group stay, and those past the new last are zero
-without-last : (n : ℕ) (marks : List ℕ) → 0 < n → markWords * (q n + 1) ≤ length marks
-    → Rewritten n (q (n - 1)) (withoutLast n marks) marks
-    × ((m : ℕ) → q (n - 1) < m → m ≤ q n → markAt (withoutLast n marks) m ≡ replicate markWords 0)
-unfolding q r markAt
-without-last n marks h l =
-    let z : List ℕ = replicate markWords 0 in
-    let s : length z ≡ markWords = length-replicate {A = ℕ} markWords 0 in
-    let i : ℕ = markWords * q n in
-    elim (ℕ-discrete (r n) 0) [
-      | yes e ↦ rw (zeroes n marks e) (
-        record {
-          size = length-overwriteAt i z marks (omega arith);
-          before = take-overwriteAt i (markWords * (q (n - 1) + 1)) z marks (omega arith) (omega arith);
-          behind = λ d f. drop-overwriteAt i (markWords * (d + 1)) z marks (omega arith) (omega arith);
-        },
-        λ m f g. let j : m ≡ q n = omega arith in rw j (read-written i markWords z marks s (omega arith)),
-      )
-      | no e ↦ rw (zeroes-none n marks e) (search, λ m f g. absurd (omega arith))
-    ]
+use Rattle.sheet_definition.proofs.Freed.{zeroed, past-last}
+use Rattle.sheet_definition.proofs.Fair.{Fair, Proper, one-fair}
 
 -- many records written at places that rise
 pub many-fair : (w : World) (places x out : List ℕ) → Fits w out → rising places ≡ true → Below (w .n) places
@@ -190,12 +158,11 @@ module _ (w : World) (c : Call) where
       let none = fails (refusals Drop) (numbered Drop) e in
       let f : Fits w (c .out) = room Drop e in
       let h : 0 < w .n = place-held (w .n) 0 (none PLACE) in
-      let z : List ℕ = replicate recordBytes 0 in
-      let s : length z ≡ recordBytes = length-replicate {A = ℕ} recordBytes 0 in
-      let m = without-last (w .n) (w .marks) h (f .marks-room) in
-      one-fair w (w .n - 1) z (w .n - 1) (withoutLast (w .n) (w .marks)) s (omega arith) (omega arith) (omega arith) (omega (arith, f .sheet-room))
-      (omega (arith, f .count)) (omega (arith, f .sheet-room)) (unfold q in omega (arith, f .marks-room)) (m .0)
-      (λ k i j. let n : k ≡ w .n - 1 = omega arith in rw n (read-written (recordBytes * (w .n - 1)) recordBytes z (w .sheet) s (omega (arith, f .sheet-room))))
+      let m = past-last (w .n) (w .n - 1) (q (w .n - 1)) (w .marks) (omega arith) (omega arith) (f .marks-room) in
+      one-fair w (w .n - 1) (replicate recordBytes 0) (w .n - 1) (pastLast (w .n) (w .n - 1) (w .marks)) (length-replicate {A = ℕ} recordBytes 0)
+      (omega arith) (omega arith) (omega arith) (omega (arith, f .sheet-room)) (omega (arith, f .count)) (omega (arith, f .sheet-room))
+      (unfold q in omega (arith, f .marks-room)) (m .0)
+      (λ k i j. zeroed (recordBytes * (w .n - 1)) recordBytes (recordBytes * k) recordBytes (w .sheet) (omega arith) (omega arith) (omega (arith, f .sheet-room)))
       (m .1)
   fair (Batch places x) e = many-fair w places x (c .out) (room (Batch places x) e) (many places x e .rise) (many places x e .below) (many places x e .sizes)
 

@@ -10,10 +10,10 @@ use lib.ListN.{take, drop, replicate}
 use Rattle.definition.specs.Luffa.{luffa}
 use Rattle.definition.specs.Buffer.{same, joined}
 use Rattle.definition.specs.Refusal.{firstOf}
-use Rattle.sheet_definition.specs.Sheet.{World}
+use Rattle.sheet_definition.specs.Sheet.{World, cut}
 use Rattle.sheet_definition.specs.SheetCalls.{buildOutcome, Call, saveOf, call, changing, plain}
 use Rattle.sheet_definition.specs.SheetCalls.Kind.{Append, Drop}
-use Rattle.sheet_definition.specs.Run.{left, next, run, listAfter, applied, cut}
+use Rattle.sheet_definition.specs.Run.{left, next, run, listAfter, applied}
 use Rattle.sheet_definition.specs.Said.{Stale, Stands, Laid, Restored}
 use Rattle.sheet_definition.proofs.Computed.{everything}
 use Rattle.sheet_definition.proofs.Writes.{same-refl}

@@ -8,9 +8,8 @@ use native.Mathlib.Omega.{arith}
 use lib.ListN.{length, take, drop, set, length-append, length-set, length-drop, take-append-drop}
 use lib.Seq.{length-take-le, take-nil, take-at, drop-at, take-append-le, drop-append-le, take-append-add, drop-append-add, take-add}
 use Rattle.definition.specs.Buffer.{overwriteAt, joined}
-use Rattle.sheet_definition.specs.Sheet.{World, recordBytes}
+use Rattle.sheet_definition.specs.Sheet.{World, recordBytes, cut}
 use Rattle.sheet_definition.specs.Marks.{held}
-use Rattle.sheet_definition.specs.Run.{cut}
 use Rattle.sheet_definition.specs.Said.{Forty, Stands}
 use Rattle.definition.proofs.Every.{every-set}
 use Rattle.definition.proofs.Buffer.{length-overwriteAt}

@@ -8,6 +8,7 @@ pub mod Many
 pub mod Outcomes
 pub mod Refused
 pub mod Fair
+pub mod Freed
 pub mod Saves
 pub mod Edits
 pub mod Build

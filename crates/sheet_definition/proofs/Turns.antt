@@ -186,7 +186,7 @@ empty-set w x claim out e =
     let f = proper w c .room (a .0) in
     a .1
     ∙ rw (
-      check-leaves (w .code) (w .n) (w .sheet) (w .marks) (f .marks-room),
+      check-leaves (w .code) (w .n) (w .sheet) (w .marks),
       rounds-from-mark (w .code) (w .n) (q (w .n)) (w .sheet) (w .marks) (le-refl (q (w .n))) (f .sheet-room),
       check-from-last-mark (w .code) (w .n),
       zero-add,

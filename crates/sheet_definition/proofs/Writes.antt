@@ -80,17 +80,17 @@ rewritten code n m sheet marks h l =
     }
 
 -- from the last mark on no mark is written
-pub nothing-written : (w : Width) (n : ℕ) (h : List Block) (x marks : List ℕ) → markWords * (q n + 1) ≤ length marks
+pub nothing-written : (w : Width) (n : ℕ) (h : List Block) (x marks : List ℕ)
     → overwriteAt (markWords * (q n + 1)) (marksAfter w (q n - q n) h x) marks ≡ marks
 unfolding marksAfter
-nothing-written w n h x marks r =
+nothing-written w n h x marks =
     let j : q n - q n ≡ 0 = omega arith in
-    rw j (overwriteAt-none (markWords * (q n + 1)) marks r)
+    rw j (overwriteAt-none (markWords * (q n + 1)) marks)
 
 -- so the check leaves the marks
-pub check-leaves : (code n : ℕ) (sheet marks : List ℕ) → markWords * (q n + 1) ≤ length marks → worked code n sheet marks (q n) .marks ≡ marks
+pub check-leaves : (code n : ℕ) (sheet marks : List ℕ) → worked code n sheet marks (q n) .marks ≡ marks
 unfolding worked
-check-leaves code n sheet marks r = nothing-written _ n _ _ marks r
+check-leaves code n sheet marks = nothing-written _ n _ _ marks
 
 -- a digest has the length that its code names, whatever the marks
 pub length-digest : (code n m : ℕ) (sheet marks : List ℕ) → length (worked code n sheet marks m .digest) ≡ bytesAt code

@@ -40,8 +40,3 @@ applied (suc k) rs c = rs
 unfoldable pub records : World → List (List ℕ) → List Call → List (List ℕ)
 records w rs [] = rs
 records w rs (c ∷ cs) = records (next w c) (applied (call w c .answer .number) rs c) cs
-
--- a sheet's bytes as n records
-unfoldable pub cut : (n : ℕ) → List ℕ → List (List ℕ)
-cut zero l = []
-cut (suc n) l = take recordBytes l ∷ cut n (drop recordBytes l)

@@ -1,7 +1,8 @@
 -- The sheet and its numbers: document 01, "Sheet and marks". A sheet is n records of 40 bytes, four to a group of five message blocks; mark m
 -- is the state after the first m groups.
-use Prim.Native.Nat.{ℕ, _+_, _-_, _*_, _/_, _%_}
-use mathlib.Core.List.{List}
+use Prim.Native.Nat.{ℕ, zero, suc, _+_, _-_, _*_, _/_, _%_}
+use mathlib.Core.List.{List, [], _∷_}
+use lib.ListN.{take, drop}
 use Rattle.definition.specs.Final.{finalRounds}
 use Rattle.definition.specs.Luffa.{wordsAt}
 
@@ -18,6 +19,11 @@ most = 1024
 
 abbrev pub recordBytes : ℕ
 recordBytes = 40
+
+-- a sheet's bytes as n records
+unfoldable pub cut : (n : ℕ) → List ℕ → List (List ℕ)
+cut zero l = []
+cut (suc n) l = take recordBytes l ∷ cut n (drop recordBytes l)
 
 -- "Group g is records 4g to 4g+3, that is 160 bytes or five message blocks. Mark m is 40 words"
 abbrev pub groupBytes : ℕ

@@ -2,13 +2,12 @@
 use Prim.Native.Nat.{ℕ, _+_, _-_, _*_}
 use mathlib.Core.Bool.{Bool, true, false}
 use mathlib.Core.List.{List, [], _∷_}
-use lib.Dec.{eqb}
 use lib.ListN.{length, take, drop, replicate}
 use Rattle.definition.specs.Start.{start}
 use Rattle.definition.specs.Width.{widthAt}
 use Rattle.definition.specs.Buffer.{overwriteAt, overwrite}
 use Rattle.definition.specs.Refusal.{Refusal, STALE, pick, firstOf, whenDone}
-use Rattle.sheet_definition.specs.Sheet.{World, recordBytes, markWords, q, r}
+use Rattle.sheet_definition.specs.Sheet.{World, recordBytes, markWords, q}
 use Rattle.sheet_definition.specs.Refusals.{Lengths, lengthsOf, buildRefusals, changeRefusals, appendRefusals, dropRefusals, batchRefusals}
 use Rattle.sheet_definition.specs.Marks.{markOf, worked}
 use Rattle.sheet_definition.specs.Save.{SheetOutcome, refusedWith, doneWith, Edit, Save, saveOutcome}
@@ -66,9 +65,9 @@ oneRecord w place x count marks =
       works = true;
     }
 
--- "When r = 0 it zeroes mark q."
-unfoldable pub withoutLast : (n : ℕ) → (marks : List ℕ) → List ℕ
-withoutLast n marks = pick (eqb (r n) 0) (overwriteAt (markWords * q n) (replicate markWords 0) marks) marks
+-- the marks of n records past the last of count records zeroed: of a drop, "When r = 0 it zeroes mark q."
+unfoldable pub pastLast : (n count : ℕ) → (marks : List ℕ) → List ℕ
+pastLast n count marks = overwriteAt (markWords * (q count + 1)) (replicate (markWords * (q n - q count)) 0) marks
 
 -- a batch: the new records written at their places, the lowest place, that past the highest, and whether there is one; where there is none both
 -- are the end of the sheet
@@ -104,7 +103,7 @@ manyRecords w places x =
 unfoldable pub editOf : World → Kind → Edit
 editOf w (Change place x) = oneRecord w place x (w .n) (w .marks)
 editOf w (Append x) = oneRecord w (w .n) x (w .n + 1) (w .marks)
-editOf w Drop = oneRecord w (w .n - 1) (replicate recordBytes 0) (w .n - 1) (withoutLast (w .n) (w .marks))
+editOf w Drop = oneRecord w (w .n - 1) (replicate recordBytes 0) (w .n - 1) (pastLast (w .n) (w .n - 1) (w .marks))
 editOf w (Batch places x) = manyRecords w places x
 
 -- "When it is stale, compare": the marks held with the planner's own, and the number that answers then

@@ -1,15 +1,15 @@
 -- What reading and clearing a mark does where the marks are too short: zero is read, and nothing is written. So callers owe no bound.
-use mathlib.Core.Bool.{Bool, true, false, _&&_}
+use mathlib.Core.Bool.{Bool, true, false}
 use mathlib.Core.List.{List, []}
-use Prim.Native.Nat.{ℕ, _+_, _*_}
-use lib.Dec.{leb, ltb, eqb}
+use Prim.Native.Nat.{ℕ, _+_, _-_, _*_}
+use lib.Dec.{leb}
 use lib.ListN.{length, replicate}
 use Rattle.definition.specs.declared.Block.{Block}
 use Rattle.definition.specs.declared.State.{State}
 use Rattle.definition.specs.declared.Width.{Width}
 use Rattle.definition.specs.Block.{zeroBlock}
 use Rattle.definition.specs.State.{stateOf}
-use Rattle.sheet_definition.specs.Sheet.{markWords, q, r}
+use Rattle.sheet_definition.specs.Sheet.{markWords, q}
 use Rattle.sheet_definition.specs.Marks.{markAt, stateFrom}
 use Rattle.bytes.specs.Total.{writeAt}
 
@@ -26,11 +26,6 @@ stateWhen false s = stateOf []
 unfoldable pub stateAt : Width → (marks : List ℕ) → (m : ℕ) → State
 stateAt w marks m = stateWhen (leb (markWords * (m + 1)) (length marks)) (stateOf (stateFrom w (markAt marks m)))
 
--- mark m zeroed, where it is there
-unfoldable pub clearWhen : Bool → (m : ℕ) → (marks : List ℕ) → List ℕ
-clearWhen true m marks = writeAt (markWords * m) (replicate markWords 0) marks
-clearWhen false m marks = marks
-
--- a sheet of n records becomes one of count: mark q is zeroed where they become fewer and r = 0
+-- a sheet of n records becomes one of count: the marks past its new last one are zeroed
 unfoldable pub cleared : (n count : ℕ) → (marks : List ℕ) → List ℕ
-cleared n count marks = clearWhen (ltb count n && eqb (r n) 0) (q n) marks
+cleared n count marks = writeAt (markWords * (q count + 1)) (replicate (markWords * (q n - q count)) 0) marks

@@ -113,15 +113,17 @@ pub fn write(marks: &mut [u32], m: usize, s: State)
     put(marks, m, &ws);
 }
 
-// A sheet of n records becomes one of count: mark q is zeroed where they become fewer and r = 0, as a drop leaves it.
+// A sheet of n records becomes one of count: the marks past its new last one are zeroed.
 pub fn clear(marks: &mut [u32], n: usize, count: usize)
     ensures { λ _. ⌜ now (marks .exit) ≡ cleared n count (now (marks .entry)) ⌝ }
 {
-    if n <= count {
+    let last = n / 4;
+    if marks.len() / MARK <= last {
         return;
     }
-    if n % 4 != 0 {
-        return;
+    let mut m = count / 4;
+    while m < last {
+        m += 1;
+        write(marks, m, zeros());
     }
-    write(marks, n / 4, zeros());
 }

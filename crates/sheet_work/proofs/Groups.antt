@@ -123,7 +123,7 @@ module _ (code n m before : ℕ) (sheet marks out : List ℕ) (s : State) (k : �
   marks-worked : markWords * (q n + 1) ≤ length marks' → marks' ≡ worked code n sheet marks m .marks
   unfolding worked ahead
   marks-worked r =
-      sym (nothing-written w n (blocksIn w (c .state)) (drop (groupBytes * q n) (held n sheet)) marks' r)
+      sym (nothing-written w n (blocksIn w (c .state)) (drop (groupBytes * q n) (held n sheet)) marks')
       ∙ ap (λ (t : List ℕ × Counted). t .0) (ap (λ (i : ℕ). ahead w n sheet i c marks') (sym g) ∙ f)
       ∙ rw found
 

@@ -41,7 +41,7 @@ returns-2 c = no-room _ _ _ (omega arith)
 
 loop-holds : tie.Need-loop-holds Inv-loop μ-loop
 unfolding some bytesOfAll
-loop-holds c = (omega arith, (omega arith, omega arith), sym (write-none _ _ (omega arith)))
+loop-holds c = (omega arith, (omega arith, omega arith), sym (write-none _ _))
 
 mul-put-word-2 : tie.Need-mul-put-word-2 Inv-loop μ-loop
 mul-put-word-2 c = omega arith

@@ -1,7 +1,6 @@
 -- `luffasum_lines::print` meets its contract: at each end of the reading the text that the definition has for it.
 -- Assumes nothing.
 use mathlib.Core.Path.{refl, sym, ap, _∙_}
-use native.Mathlib.Omega.{arith}
 use borrow.Author.Needs.{needs}
 use borrow.Author.Tests.{lt-leb}
 use Rattle.bytes.proofs.Total.{write-none}
@@ -42,7 +41,7 @@ returns-4 c =
     let r = q .before .before .before .before .args .r in
     let h = q .before .before .if1 .left in
     said _ _ _ _ _ _ h (text-at _ r (q .if2 .left) ∙ ap (λ (x : End). textAt x r) (c .enum-told2 .given .1)) refl
-    (sym (write-none 0 _ (omega arith)))
+    (sym (write-none 0 _))
 
 pub print-spec : {M : Type 1} → statement M
 print-spec =

@@ -35,7 +35,7 @@ abbrev μ-loop : tie.MeasureT-loop
 
 loop-holds : tie.Need-loop-holds Inv-loop μ-loop
 unfolding some hexadecimal
-loop-holds c = (omega arith, (omega arith, omega arith), sym (write-none _ _ (omega arith)))
+loop-holds c = (omega arith, (omega arith, omega arith), sym (write-none _ _))
 
 digit-requires : tie.Need-digit-requires Inv-loop μ-loop
 digit-requires c κs = omega (arith, c .before .shared-slice-known2 .given (c .before .before .before .loop .k))

@@ -21,7 +21,7 @@ use Rattle.luffasum_lines.proofs.put_record.Tie as tie
 
 -- no line leaves the place and the buffer as they were
 none : (i : ℕ) (l out : List ℕ) → i ≤ length out → l ≡ [] → (i ≡ i + length l) × (out ≡ writeAt i l out)
-none i l out h e = rw e (omega arith, sym (write-none i out h))
+none i l out h e = rw e (omega arith, sym (write-none i out))
 
 returns : tie.Need-returns
 returns c =

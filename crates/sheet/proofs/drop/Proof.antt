@@ -15,7 +15,7 @@ use Rattle.sheet_definition.specs.SheetCalls.{Call, refusalsOf, oneRecord, edit
 use Rattle.sheet_definition.specs.SheetCalls.Kind.{Drop}
 use Rattle.sheet_definition.proofs.Edits.{proper}
 use Rattle.sheet_marks.specs.Total.{cleared}
-use Rattle.sheet_marks.proofs.Total.{cleared-fewer}
+use Rattle.sheet_marks.proofs.Total.{cleared-past}
 use Rattle.sheet.proofs.Saved.{judged, saved}
 use Rattle.sheet.proofs.drop.Statement.{statement}
 use Rattle.sheet.proofs.drop.Tie as tie
@@ -47,7 +47,7 @@ one j z =
     let a = entered j .args in
     let e = sym (j .drop .ensures) ∙ z in
     let h : 0 < a .n = omega (arith, proper (lent j) (asked j) .fair e .past-held) in
-    (length-replicate {A = ℕ} recordBytes 0, rw (lt-ltb 0 (a .n) h, cleared-fewer (a .n) (a .n - 1) (now (a .marks)) (omega arith) (proper (lent j) (asked j) .room e .marks-room)))
+    (length-replicate {A = ℕ} recordBytes 0, rw (lt-ltb 0 (a .n) h, cleared-past (a .n) (a .n - 1) (now (a .marks)) (omega arith) (proper (lent j) (asked j) .room e .marks-room)))
 
 save-requires : tie.Need-save-requires
 unfolding saveOf refusalsOf

@@ -94,7 +94,7 @@ returns-2 c =
     let g = goes e .1 in
     let s = proper (lent j) (asked j) .claim-size (valid e) in
     rw (k .admit .ensures .1)
-    (none-done (lent j) (now (a .places)) (now (a .records)) (now (a .claim)) (now (a .out)) _ _ (t .if2 .taken) (fine e .marks-room) (g .0)
+    (none-done (lent j) (now (a .places)) (now (a .records)) (now (a .claim)) (now (a .out)) _ _ (t .if2 .taken) (g .0)
     (p .put-bytes .ensures ∙ write-at 0 (now (a .claim)) (now (a .out)) (omega (arith, s, fine e .out-room)))
     (fresh (lent j) (saveOf (lent j) (asked j)) refl (judged j) (k .admit .ensures .0) (e .if1 .left))
     ∙ g .1)

@@ -45,7 +45,7 @@ returns c =
         stale = (c .differs .ensures ∙ ap (λ (x : List ℕ). not (same (now (a .claim)) x)) d) i;
         rounds = (e .0 ∙ zero-add _) i;
       },
-      e .1 .0 ∙ check-leaves (a .code) (a .n) (now (a .sheet)) (now (a .marks)) (entered k .pre .2),
+      e .1 .0 ∙ check-leaves (a .code) (a .n) (now (a .sheet)) (now (a .marks)),
     )
 
 pub check-spec : {M : Type 1} → statement M

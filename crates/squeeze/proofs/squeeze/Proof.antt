@@ -26,7 +26,7 @@ abbrev μ-loop : tie.MeasureT-loop
 
 loop-holds : tie.Need-loop-holds Inv-loop μ-loop
 unfolding squeezed wordsTo bytesOfAll
-loop-holds c = (omega arith, (omega arith, omega arith), refl, sym (overwriteAt-none 0 _ (omega arith)))
+loop-holds c = (omega arith, (omega arith, omega arith), refl, sym (overwriteAt-none 0 _))
 
 mul-put-word : tie.Need-mul-put-word Inv-loop μ-loop
 mul-put-word c = omega arith
