@@ -44,7 +44,7 @@ abbrev pub STALE : ℕ
 STALE = 11
 
 -- and document 02's: of longer output, Q-2, of the brine statement, Q-3, of many changes in one save, Q-4, of a planner's own marks, Q-6, of odd
--- bits, Q-7, and of who depends on a well, Q-10
+-- bits, Q-7, of who depends on a well, Q-10, and of closing up, Q-11
 abbrev pub WORDS : ℕ
 WORDS = 12
 
@@ -74,6 +74,9 @@ WELL = 21
 
 abbrev pub REACH : ℕ
 REACH = 22
+
+abbrev pub PLACES : ℕ
+PLACES = 23
 
 abbrev pub LIST : ℕ
 LIST = 25
