@@ -17,7 +17,7 @@ use Rattle.sheet_definition.specs.Refusals.{lengthsOf}
 use Rattle.sheet_definition.specs.Marks.{worked}
 use Rattle.sheet_definition.specs.Save.{SheetOutcome, doneWith, Edit, checked, staleClaim, reworked, roundsBefore, saveRounds}
 use Rattle.sheet_definition.specs.SheetCalls.{Kind, Call, refusalsOf, oneRecord, writtenAt, lowest, pastHighest, some, manyRecords, editOf, saveOf, call}
-use Rattle.sheet_definition.specs.SheetCalls.Kind.{Change, Append, Drop, Batch}
+use Rattle.sheet_definition.specs.SheetCalls.Kind.{Change, Append, Drop, Batch, CloseUp}
 use Rattle.sheet_definition.specs.Run.{left, next}
 use Rattle.sheet_definition.specs.Said.{Stays}
 use Rattle.sheet_definition.proofs.Writes.{same-refl, length-digest}
@@ -71,6 +71,7 @@ changes w c Drop h e = absurd h
 changes w c (Batch places x) h e =
     let m : Many w c places x = many w c places x e in
     record { below = m .below; sizes = m .sizes; edit = λ v. refl }
+changes w c (CloseUp places) h e = absurd h
 
 -- what is written into a sheet, the mark from which is worked on, and what is left
 abbrev pub writes : Kind → List ℕ → List ℕ

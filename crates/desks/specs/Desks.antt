@@ -10,7 +10,7 @@ use Rattle.definition.specs.Refusal.{known}
 use Rattle.sheet_definition.specs.Sheet.{World, recordBytes}
 use Rattle.sheet_definition.specs.Save.{SheetOutcome}
 use Rattle.sheet_definition.specs.SheetCalls.{Kind, Call, call}
-use Rattle.sheet_definition.specs.SheetCalls.Kind.{Change, Append, Drop, Batch}
+use Rattle.sheet_definition.specs.SheetCalls.Kind.{Change, Append, Drop, Batch, CloseUp}
 use Rattle.sheet_definition.specs.Run.{next, listAfter}
 use Rattle.sheet_definition.specs.Said.{Stale, Stands, Untouched}
 
@@ -35,18 +35,21 @@ Changing (Change place x) = Unit
 Changing (Append x) = ⊥
 Changing Drop = ⊥
 Changing (Batch places x) = Unit
+Changing (CloseUp places) = ⊥
 
 unfoldable pub placesOf : Kind → List ℕ
 placesOf (Change place x) = place ∷ []
 placesOf (Append x) = []
 placesOf Drop = []
 placesOf (Batch places x) = places
+placesOf (CloseUp places) = []
 
 unfoldable pub recordsOf : Kind → List ℕ
 recordsOf (Change place x) = x
 recordsOf (Append x) = []
 recordsOf Drop = []
 recordsOf (Batch places x) = x
+recordsOf (CloseUp places) = []
 
 -- "changes at different places"
 pub record Apart (k l : Kind) : Type 0 where

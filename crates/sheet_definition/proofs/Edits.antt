@@ -18,7 +18,7 @@ use Rattle.sheet_definition.specs.Own.Own.{None, Brought}
 use Rattle.sheet_definition.specs.Refusals.{lengthsOf, claimRefusal, mostChanges}
 use Rattle.sheet_definition.specs.Marks.{held}
 use Rattle.sheet_definition.specs.SheetCalls.{Kind, Call, comparing, staleNumberOf, refusalsOf, oneRecord, pastLast, lowest, pastHighest, manyRecords, editOf, saveOf}
-use Rattle.sheet_definition.specs.SheetCalls.Kind.{Change, Append, Drop, Batch}
+use Rattle.sheet_definition.specs.SheetCalls.Kind.{Change, Append, Drop, Batch, CloseUp}
 use Rattle.sheet_definition.specs.Run.{listAfter}
 use Rattle.sheet_definition.specs.Said.{Stale, Stands}
 use Rattle.definition.proofs.Every.{every-take, every-append}
@@ -29,6 +29,7 @@ use Rattle.sheet_definition.proofs.Many.{Below, none-past, within, lowe
 use Rattle.sheet_definition.proofs.Refused.{Fits, fits, place-held, one-more, set-rises, records-sized, claim-sized, judging}
 use Rattle.sheet_definition.proofs.Freed.{zeroed, past-last}
 use Rattle.sheet_definition.proofs.Fair.{Fair, Proper, one-fair}
+use Rattle.sheet_definition.proofs.Closed.{closed-fair, closed-listed}
 
 -- many records written at places that rise
 pub many-fair : (w : World) (places x out : List ℕ) → Fits w out → rising places ≡ true → Below (w .n) places
@@ -89,6 +90,7 @@ module _ (w : World) (c : Call) where
   numbered (Append x) = omega arith
   numbered Drop = omega arith
   numbered (Batch places x) = omega arith
+  numbered (CloseUp places) = omega arith
 
   earlier : (k : Kind) → Every (λ x. Stale (x .0) → ⊥) (refusals k)
   unfolding judging stale
@@ -96,6 +98,7 @@ module _ (w : World) (c : Call) where
   earlier (Append x) = search false≢true
   earlier Drop = search false≢true
   earlier (Batch places x) = search false≢true
+  earlier (CloseUp places) = search false≢true
 
   pub room : (k : Kind) → firstOf (refusals k) ≡ 0 → Fits w (c .out)
   unfolding judging
@@ -103,6 +106,7 @@ module _ (w : World) (c : Call) where
   room (Append x) e = fits w (c .out) _ (numbered (Append x)) e
   room Drop e = fits w (c .out) _ (numbered Drop) e
   room (Batch places x) e = fits w (c .out) _ (numbered (Batch places x)) e
+  room (CloseUp places) e = fits w (c .out) _ (numbered (CloseUp places)) e
 
   claimed : (k : Kind) → conditionOf CLAIM (refusals k) ≡ claimRefusal (bytesAt (w .code)) (length (c .claim)) .1
   unfolding judging
@@ -110,6 +114,7 @@ module _ (w : World) (c : Call) where
   claimed (Append x) = refl
   claimed Drop = refl
   claimed (Batch places x) = refl
+  claimed (CloseUp places) = refl
 
   -- a new record has its size
   module _ (x : List ℕ) where
@@ -165,6 +170,7 @@ module _ (w : World) (c : Call) where
       (λ k i j. zeroed (recordBytes * (w .n - 1)) recordBytes (recordBytes * k) recordBytes (w .sheet) (omega arith) (omega arith) (omega (arith, f .sheet-room)))
       (m .1)
   fair (Batch places x) e = many-fair w places x (c .out) (room (Batch places x) e) (many places x e .rise) (many places x e .below) (many places x e .sizes)
+  fair (CloseUp places) e = closed-fair w (c .out) (room (CloseUp places) e)
 
   -- where nothing is refused, nothing is but for the planner's own marks
   pub before-own : firstOf (withOwn (w .code) (c .own) (refusals (c .kind))) ≡ 0 → firstOf (refusals (c .kind)) ≡ 0
@@ -216,3 +222,4 @@ module _ (w : World) (c : Call) where
   listed (Batch places x) rs s e =
       let m : Many places x = many places x e in
       listed-in-turn (w .n) places x (w .sheet) rs (m .below) (m .sizes) (s .sheet-room) (listed-by w rs s)
+  listed (CloseUp places) rs s e = closed-listed w rs (s .sheet-room) (listed-by w rs s)

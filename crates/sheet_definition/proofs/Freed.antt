@@ -1,6 +1,6 @@
 -- What a save takes away is zeroed: zeros that were written stand there, and the marks past a sheet's new last one are zero.
 -- Assumes nothing.
-use mathlib.Core.Path.{_≡_, sym, ap, _∙_}
+use mathlib.Core.Path.{_≡_, refl, sym, ap, _∙_}
 use mathlib.Core.List.{List, _++_}
 use Prim.Native.Nat.{ℕ, _+_, _-_, _*_, _<_, _≤_}
 use native.Mathlib.Omega.{arith}
@@ -29,6 +29,12 @@ zeroed i m j c l a b h =
     (sym (take-take c d (drop j (overwriteAt j v (overwriteAt i p l))) (omega arith))
     ∙ ap (take c) (read-written j d v (overwriteAt i p l) (length-replicate {A = ℕ} d 0) (omega (arith, length-overwriteAt i p l (omega arith))))
     ∙ rw (parted c (d - c) d (omega arith)) (take-at (replicate c 0) (replicate (d - c) 0) c (length-replicate {A = ℕ} c 0)))
+
+-- c more behind m that were written from place i on
+pub zeros-more : (i m c : ℕ) (l : List ℕ) → i ≤ length l
+    → overwriteAt (i + m) (replicate c 0) (overwriteAt i (replicate m 0) l) ≡ overwriteAt i (replicate (m + c) 0) l
+zeros-more i m c l h =
+    overwriteAt-more i (i + m) (replicate m 0) (replicate c 0) l h (rw (length-replicate {A = ℕ} m 0)) ∙ rw (parted m c (m + c) refl)
 
 -- marks up to any before the new last stay, those past the new last are zero, and the words behind the old last stay
 pub past-last : (n count m : ℕ) (marks : List ℕ) → m ≤ q count → count ≤ n → markWords * (q n + 1) ≤ length marks

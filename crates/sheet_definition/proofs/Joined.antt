@@ -2,11 +2,11 @@
 -- Assumes nothing.
 use mathlib.Core.Path.{_≡_, refl, sym, ap, _∙_}
 use mathlib.Core.List.{List, [], _∷_, _++_, append-assoc}
-use Prim.Native.Nat.{ℕ, zero, suc, _+_, _*_, _<_, _≤_}
+use Prim.Native.Nat.{ℕ, zero, suc, _+_, _-_, _*_, _<_, _≤_}
 use native.Mathlib.Nat.{add-assoc}
 use native.Mathlib.Omega.{arith}
 use lib.ListN.{length, take, drop, set, length-append, length-set, length-drop, take-append-drop}
-use lib.Seq.{length-take-le, take-nil, take-at, drop-at, take-append-le, drop-append-le, take-append-add, drop-append-add, take-add}
+use lib.Seq.{length-take-le, drop-drop, take-nil, take-at, drop-at, take-append-le, drop-append-le, take-append-add, drop-append-add, take-add}
 use Rattle.definition.specs.Buffer.{overwriteAt, joined}
 use Rattle.sheet_definition.specs.Sheet.{World, recordBytes, cut}
 use Rattle.sheet_definition.specs.Marks.{held}
@@ -14,7 +14,7 @@ use Rattle.sheet_definition.specs.Said.{Forty, Stands}
 use Rattle.definition.proofs.Every.{every-set}
 use Rattle.definition.proofs.Buffer.{length-overwriteAt}
 
-length-joined : (rs : List (List ℕ)) → Forty rs → length (joined rs) ≡ recordBytes * length rs
+pub length-joined : (rs : List (List ℕ)) → Forty rs → length (joined rs) ≡ recordBytes * length rs
 unfolding joined
 length-joined [] f = refl
 length-joined (x ∷ rs) f = omega (arith, length-append x (joined rs), length-joined rs (f .1))
@@ -84,6 +84,23 @@ joined-cut zero l = refl
 joined-cut (suc n) l =
     let e : recordBytes * suc n ≡ recordBytes + recordBytes * n = omega arith in
     rw (joined-cut n (drop recordBytes l), e, take-add recordBytes (recordBytes * n) l)
+
+-- from place i on: its record, and those after it; and the first records with one more
+pub cut-from : (n i : ℕ) (l : List ℕ) → i < n
+    → cut (n - i) (drop (recordBytes * i) l) ≡ take recordBytes (drop (recordBytes * i) l) ∷ cut (n - suc i) (drop (recordBytes * suc i) l)
+unfolding cut
+cut-from n i l h =
+    let e : n - i ≡ suc (n - suc i) = omega arith in
+    let j : recordBytes * suc i ≡ recordBytes * i + recordBytes = omega arith in
+    rw (e, j, drop-drop recordBytes (recordBytes * i) l)
+
+pub cut-more : (i : ℕ) (l : List ℕ) → cut (suc i) l ≡ cut i l ++ take recordBytes (drop (recordBytes * i) l) ∷ []
+unfolding cut
+cut-more zero l = refl
+cut-more (suc i) l =
+    let j : recordBytes * suc i ≡ recordBytes + recordBytes * i = omega arith in
+    ap (λ (rs : List (List ℕ)). take recordBytes l ∷ rs)
+    (cut-more i (drop recordBytes l) ∙ rw (j, drop-drop (recordBytes * i) recordBytes l))
 
 -- the first n records of a sheet are those of a list
 pub record Listed (n : ℕ) (sheet : List ℕ) (rs : List (List ℕ)) : Type 0 where

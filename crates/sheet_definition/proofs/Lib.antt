@@ -9,6 +9,8 @@ pub mod Outcomes
 pub mod Refused
 pub mod Fair
 pub mod Freed
+pub mod Struck
+pub mod Closed
 pub mod Saves
 pub mod Edits
 pub mod Build
@@ -20,9 +22,12 @@ pub mod Compared
 pub mod Owned
 pub mod Again
 pub mod Turns
+pub mod CloseUps
+pub mod Served
 pub mod Sentences
 pub mod Examples
 pub mod Instances
 pub mod Evenings
+pub mod Closings
 pub mod Told
 pub mod Determined

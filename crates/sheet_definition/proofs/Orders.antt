@@ -6,14 +6,14 @@ use mathlib.Core.Bool.{Bool, true, false}
 use mathlib.Core.List.{List, [], _∷_, _++_}
 use Prim.Native.Nat.{ℕ}
 use native.Mathlib.Omega.{arith}
-use Rattle.definition.specs.Refusal.{Refusal, Judged, WIDTH, OUT, SHEET, MARKS, PLACE, FULL, SIZE, CLAIM, STALE, SET, OWN, numbersOf, rising}
+use Rattle.definition.specs.Refusal.{Refusal, Judged, WIDTH, OUT, SHEET, MARKS, PLACE, FULL, SIZE, CLAIM, STALE, SET, OWN, PLACES, numbersOf, rising}
 use Rattle.sheet_definition.specs.Sheet.{World}
 use Rattle.sheet_definition.specs.Refusals.{lengthsOf, buildRefusals}
 use Rattle.sheet_definition.specs.Save.{staleClaim}
 use Rattle.sheet_definition.specs.Own.{Own, ownRefusal}
 use Rattle.sheet_definition.specs.Own.Own.{None, Brought}
 use Rattle.sheet_definition.specs.SheetCalls.{buildOutcome, Kind, Call, staleNumberOf, saveOf, call}
-use Rattle.sheet_definition.specs.SheetCalls.Kind.{Change, Append, Drop, Batch}
+use Rattle.sheet_definition.specs.SheetCalls.Kind.{Change, Append, Drop, Batch, CloseUp}
 use Rattle.definition.proofs.Every.{every-append}
 use Rattle.definition.proofs.Refusals.{judged}
 use Rattle.sheet_definition.proofs.Outcomes.{stale-answers, number-is}
@@ -31,18 +31,20 @@ orderOf (Change place x) = WIDTH ∷ OUT ∷ SHEET ∷ MARKS ∷ PLACE ∷ SIZE 
 orderOf (Append x) = WIDTH ∷ OUT ∷ SHEET ∷ MARKS ∷ FULL ∷ SIZE ∷ CLAIM ∷ []
 orderOf Drop = WIDTH ∷ OUT ∷ SHEET ∷ MARKS ∷ PLACE ∷ CLAIM ∷ []
 orderOf (Batch places x) = WIDTH ∷ OUT ∷ SHEET ∷ MARKS ∷ SET ∷ PLACE ∷ SIZE ∷ CLAIM ∷ []
+orderOf (CloseUp places) = WIDTH ∷ OUT ∷ SHEET ∷ MARKS ∷ PLACES ∷ CLAIM ∷ []
 
 -- "15 OWN .., after 10; for such a save 11 .., and 16"
 unfoldable pub endOf : World → Own → List ℕ
 endOf w None = STALE ∷ []
 endOf w (Brought n marks) = OWN ∷ staleNumberOf w (Brought n marks) ∷ []
 
--- "the lowest number is given" of document 01's saves; in a batch 14 comes "after 6", before 7
+-- "the lowest number is given" of document 01's saves; in a batch 14 comes "after 6", before 7, and in closing up 23
 unfoldable pub lowestGiven : Kind → Bool
 lowestGiven (Change place x) = true
 lowestGiven (Append x) = true
 lowestGiven Drop = true
 lowestGiven (Batch places x) = false
+lowestGiven (CloseUp places) = false
 
 pub order-rising : (k : Kind) → rising (orderOf k ++ STALE ∷ []) ≡ lowestGiven k
 unfolding rising orderOf lowestGiven
@@ -50,6 +52,7 @@ order-rising (Change place x) = refl
 order-rising (Append x) = refl
 order-rising Drop = refl
 order-rising (Batch places x) = refl
+order-rising (CloseUp places) = refl
 
 save-order : (w : World) (c : Call) (k : Kind) (o : Own)
     → numbersOf (allOf w (record { kind = k; claim = c .claim; own = o; out = c .out })) ≡ orderOf k ++ endOf w o
@@ -58,10 +61,12 @@ save-order w c (Change place x) None = refl
 save-order w c (Append x) None = refl
 save-order w c Drop None = refl
 save-order w c (Batch places x) None = refl
+save-order w c (CloseUp places) None = refl
 save-order w c (Change place x) (Brought n marks) = refl
 save-order w c (Append x) (Brought n marks) = refl
 save-order w c Drop (Brought n marks) = refl
 save-order w c (Batch places x) (Brought n marks) = refl
+save-order w c (CloseUp places) (Brought n marks) = refl
 
 -- so each save is judged by its list, and a build by its own
 pub save-judged : (w : World) (c : Call) → Judged (call w c .answer .number) (allOf w c) (orderOf (c .kind) ++ endOf w (c .own))

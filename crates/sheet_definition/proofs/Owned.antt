@@ -20,7 +20,7 @@ use Rattle.sheet_definition.specs.Own.{shared, nowhere, staleAs, stale, 
 use Rattle.sheet_definition.specs.Own.Own.{Brought}
 use Rattle.sheet_definition.specs.Refusals.{lengthsOf}
 use Rattle.sheet_definition.specs.SheetCalls.{Kind, Call, plain, refusalsOf, comparing, staleNumberOf, saveOf, call, whereOf}
-use Rattle.sheet_definition.specs.SheetCalls.Kind.{Change, Append, Drop, Batch}
+use Rattle.sheet_definition.specs.SheetCalls.Kind.{Change, Append, Drop, Batch, CloseUp}
 use Rattle.sheet_definition.specs.Said.{Stale, Finds, Names, Tail}
 use Rattle.sheet_definition.proofs.Outcomes.{stale-answers, done-is, by-answer}
 use Rattle.sheet_definition.proofs.Refused.{judging}
@@ -152,6 +152,7 @@ others w c (Change place x) = omega arith
 others w c (Append x) = omega arith
 others w c Drop = omega arith
 others w c (Batch places x) = omega arith
+others w c (CloseUp places) = omega arith
 
 pub plain-never : (w : World) (k : Kind) (claim out : List ℕ) → let n = call w (plain k claim out) .answer .number in (n ≡ OWN → ⊥) × (n ≡ STALE-TAIL → ⊥)
 unfolding call saveOf refusedWith doneWith

@@ -11,7 +11,7 @@ use borrow.Author.Tests.{ltb-false, leb-false, eqb-true, eqb-false, not-false}
 use Rattle.definition.specs.Luffa.{bytesAt}
 use Rattle.definition.specs.Refusal.{Refusal, WIDTH, OUT, SHEET, MARKS, pick, firstOf, numbersOf, conditionOf, known, rising, widthRefusal, outRefusal}
 use Rattle.sheet_definition.specs.Sheet.{World, most, recordBytes, markWords, q}
-use Rattle.sheet_definition.specs.Refusals.{Lengths, lengthsOf, sheetRefusal, marksRefusal, placeRefusal, fullRefusal, sizeRefusal, claimRefusal, placesRefusal, setRefusal, buildRefusals, changeRefusals, appendRefusals, dropRefusals, batchRefusals, mostChanges}
+use Rattle.sheet_definition.specs.Refusals.{Lengths, lengthsOf, sheetRefusal, marksRefusal, placeRefusal, fullRefusal, sizeRefusal, claimRefusal, placesRefusal, setRefusal, listRefusal, buildRefusals, changeRefusals, appendRefusals, dropRefusals, batchRefusals, closeUpRefusals, mostChanges}
 use Rattle.sheet_definition.specs.SheetCalls.{refusalsOf}
 use Rattle.definition.proofs.Conditions.{either-false}
 use Rattle.definition.proofs.Refusals.{Numbered, fails}
@@ -43,6 +43,10 @@ unfolding setRefusal
 set-rises places e =
     let b = either-false (ltb mostChanges (length places)) (not (rising places)) e in
     (ltb-false mostChanges (length places) (b .0), not-false (rising places) (b .1))
+
+pub list-fits : (n places : ℕ) → listRefusal n places .1 ≡ false → n ≤ places
+unfolding listRefusal
+list-fits n places e = ltb-false places n e
 
 pub one-more : (n sheet marks : ℕ) → fullRefusal n sheet marks .1 ≡ false
     → (n ≡ most → ⊥) × (recordBytes * (n + 1) ≤ sheet) × (markWords * (q (n + 1) + 1) ≤ marks)
@@ -93,5 +97,5 @@ built-fits w out e = fits w out [] (built-numbered (lengthsOf w out)) e
 
 -- the line `unfolding judging` opens the lists of all calls and what is asked of them
 unfoldable pub judging : Unit {0}
-unfolding refusalsOf changeRefusals appendRefusals dropRefusals batchRefusals buildRefusals widthRefusal outRefusal sheetRefusal marksRefusal placeRefusal placesRefusal setRefusal fullRefusal sizeRefusal claimRefusal numbersOf conditionOf pick
+unfolding refusalsOf changeRefusals appendRefusals dropRefusals batchRefusals closeUpRefusals buildRefusals widthRefusal outRefusal sheetRefusal marksRefusal placeRefusal placesRefusal setRefusal listRefusal fullRefusal sizeRefusal claimRefusal numbersOf conditionOf pick
 judging = tt

@@ -1,12 +1,12 @@
--- The refusals of the sheet calls, 1, 2 and 5 to 10: document 01, "Refusal numbers"; and 14: document 02, Q-4. They are judged by numbers and by
--- the lengths of the buffers; 11, whether a claim is stale, comes after them.
+-- The refusals of the sheet calls, 1, 2 and 5 to 10: document 01, "Refusal numbers"; 14 and 23: document 02, Q-4 and Q-11. They are judged by
+-- numbers and by the lengths of the buffers; 11, whether a claim is stale, comes after them.
 use Prim.Native.Nat.{ℕ, _+_, _*_}
 use mathlib.Core.Bool.{Bool, false, not, _||_}
 use mathlib.Core.List.{List, [], _∷_, _++_}
 use lib.Dec.{leb, ltb, eqb}
 use lib.ListN.{length}
 use Rattle.definition.specs.Luffa.{bytesAt}
-use Rattle.definition.specs.Refusal.{Refusal, SHEET, MARKS, PLACE, FULL, SIZE, CLAIM, SET, rising, widthRefusal, outRefusal}
+use Rattle.definition.specs.Refusal.{Refusal, SHEET, MARKS, PLACE, FULL, SIZE, CLAIM, SET, PLACES, rising, widthRefusal, outRefusal}
 use Rattle.sheet_definition.specs.Sheet.{World, most, recordBytes, markWords, q}
 
 -- what every sheet call is judged by: code, count, and how long the buffers are
@@ -61,6 +61,10 @@ sizeRefusal records recordsLength = (SIZE, not (eqb recordsLength (recordBytes *
 unfoldable pub claimRefusal : (bytes claimLength : ℕ) → Refusal
 claimRefusal bytes claimLength = (CLAIM, not (eqb claimLength bytes))
 
+-- 23: "list shorter than n"
+unfoldable pub listRefusal : (n placesLength : ℕ) → Refusal
+listRefusal n placesLength = (PLACES, ltb placesLength n)
+
 -- the refusals of each call in their order; every save begins with those of a build
 unfoldable pub buildRefusals : Lengths → List Refusal
 buildRefusals l =
@@ -91,3 +95,8 @@ batchRefusals l places recordsLength claimLength =
     ∷ sizeRefusal (length places) recordsLength
     ∷ claimRefusal (bytesAt (l .code)) claimLength
     ∷ []
+
+-- "23 PLACES .., after 6; then 10 and 11."
+unfoldable pub closeUpRefusals : Lengths → (placesLength claimLength : ℕ) → List Refusal
+closeUpRefusals l placesLength claimLength =
+    buildRefusals l ++ listRefusal (l .n) placesLength ∷ claimRefusal (bytesAt (l .code)) claimLength ∷ []

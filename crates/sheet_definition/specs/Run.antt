@@ -4,9 +4,10 @@ use Prim.Native.Nat.{ℕ, zero, suc, _-_}
 use mathlib.Core.List.{List, [], _∷_, _++_}
 use lib.ListN.{length, take, drop, set}
 use Rattle.sheet_definition.specs.Sheet.{World, recordBytes}
+use Rattle.sheet_definition.specs.Struck.{standing}
 use Rattle.sheet_definition.specs.Save.{SheetOutcome}
 use Rattle.sheet_definition.specs.SheetCalls.{Kind, Call, call}
-use Rattle.sheet_definition.specs.SheetCalls.Kind.{Change, Append, Drop, Batch}
+use Rattle.sheet_definition.specs.SheetCalls.Kind.{Change, Append, Drop, Batch, CloseUp}
 
 -- the world that an outcome leaves
 unfoldable pub left : (code : ℕ) → SheetOutcome → World
@@ -24,12 +25,14 @@ unfoldable pub inTurn : (places records' : List ℕ) → List (List ℕ) → Lis
 inTurn [] x rs = rs
 inTurn (p ∷ ps) x rs = inTurn ps (drop recordBytes x) (set rs p (take recordBytes x))
 
--- what a save that is done makes of the list of records; "Demand 3 reads a batch as its changes in turn"
+-- what a save that is done makes of the list of records; "Demand 3 reads a batch as its changes in turn", and closing up "as the list without its
+-- struck records"
 unfoldable pub listAfter : Kind → List (List ℕ) → List (List ℕ)
 listAfter (Change place x) rs = set rs place x
 listAfter (Append x) rs = rs ++ x ∷ []
 listAfter Drop rs = take (length rs - 1) rs
 listAfter (Batch places x) rs = inTurn places x rs
+listAfter (CloseUp places) rs = standing rs
 
 -- and what one that is answered by a number does
 unfoldable pub applied : (number : ℕ) → List (List ℕ) → Call → List (List ℕ)

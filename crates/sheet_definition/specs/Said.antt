@@ -3,20 +3,21 @@
 use mathlib.Core.Path.{_≡_}
 use mathlib.Core.Logic.{_↔_}
 use Prim.Native.Nat.{ℕ, suc, _+_, _*_, _<_, _≤_}
-use mathlib.Core.Bool.{true}
-use mathlib.Core.List.{List}
-use lib.ListN.{length, take, drop, replicate}
+use mathlib.Core.Bool.{true, false}
+use mathlib.Core.List.{List, []}
+use lib.ListN.{length, getD, take, drop, replicate}
 use Rattle.sheet_definition.specs.declared.Answer.{Answer}
 use Rattle.sheet_definition.specs.declared.Found.{Found}
 use Rattle.sheet_definition.specs.declared.Found.the-variants.{Same, Group}
 use Rattle.definition.specs.Luffa.{luffa}
 use Rattle.definition.specs.Buffer.{Every, overwrite, joined}
-use Rattle.definition.specs.Refusal.{First, STALE, STALE-TAIL, firstOf, known}
-use Rattle.sheet_definition.specs.Sheet.{World, most, recordBytes, groupBytes, markWords, q, checkRounds}
+use Rattle.definition.specs.Refusal.{First, STALE, STALE-TAIL, firstOf, known, rising}
+use Rattle.sheet_definition.specs.Sheet.{World, most, recordBytes, groupBytes, markWords, cut, q, checkRounds}
+use Rattle.sheet_definition.specs.Struck.{allZero, standing, oldPlaces}
 use Rattle.sheet_definition.specs.Marks.{held, markAt, markOf, stateAfter, TrueMarks}
 use Rattle.sheet_definition.specs.Save.{SheetOutcome, Edit, saveRounds}
 use Rattle.sheet_definition.specs.Own.{used, shared, stale}
-use Rattle.sheet_definition.specs.SheetCalls.{Call, call, saveOf, whereOf}
+use Rattle.sheet_definition.specs.SheetCalls.{Call, call, saveOf, whereOf, closingUp}
 use Rattle.sheet_definition.specs.Run.{next, applied}
 
 -- the numbers that answer a stale claim
@@ -77,6 +78,27 @@ pub record Stays (w : World) (e : Edit) (out : List ℕ) (o : SheetOutcome) : Ty
 pub record Freed (w : World) (o : SheetOutcome) : Type 0 where
   pub bytes : (k : ℕ) → o .answer .count ≤ k → k < w .n → take recordBytes (drop (recordBytes * k) (o .sheet)) ≡ replicate recordBytes 0
   pub words : (m : ℕ) → q (o .answer .count) < m → m ≤ q (w .n) → markAt (o .marks) m ≡ replicate markWords 0
+
+-- records none of which is struck
+abbrev pub Stand : List (List ℕ) → Type 0
+Stand = Every (λ x. allZero x ≡ false)
+
+-- "writes for each new place the old one": the places rise, one for each record that stands; each is where the record stood, which isn't struck, and
+-- none that isn't is left out
+pub record OldPlaces (rs : List (List ℕ)) (places : List ℕ) : Type 0 where
+  pub rise : rising places ≡ true
+  pub one-each : length places ≡ length (standing rs)
+  pub stood : (k : ℕ) → k < length places → let p = getD places k 0 in
+      (p < length rs) × (getD (standing rs) k [] ≡ getD rs p []) × (allZero (getD rs p []) ≡ false)
+  pub none-left-out : (p : ℕ) → p < length rs → allZero (getD rs p []) ≡ false → (k : ℕ) × (k < length places) × (getD places k 0 ≡ p)
+
+-- closing up where none is struck: the list is 0 to n - 1, sheet and marks stay, the digest is the claim, and the work is the check again
+pub record NoneStruck (w : World) (places claim out : List ℕ) : Type 0 where
+  pub list : (k : ℕ) → k < w .n → getD (oldPlaces 0 (cut (w .n) (w .sheet))) k 0 ≡ k
+  pub stays : next w (closingUp places claim out) ≡ w
+  pub digest : call w (closingUp places claim out) .answer .number ≡ 0 → call w (closingUp places claim out) .out ≡ overwrite claim out
+  pub rounds : call w (closingUp places claim out) .answer .number ≡ 0
+      → call w (closingUp places claim out) .answer .rounds ≡ 2 * checkRounds (w .code) (w .n)
 
 -- what one call does to a world that stands for a list of records, whatever its arguments
 pub record After (w : World) (c : Call) (rs : List (List ℕ)) : Type 0 where

@@ -1,16 +1,18 @@
--- The sheet calls: document 01, "Sheet and marks", and document 02, Q-4 and Q-6. Build, and the kinds of save, each by its refusals and its edit.
+-- The sheet calls: document 01, "Sheet and marks", and document 02, Q-4, Q-6 and Q-11. Build, and the kinds of save, each by its refusals and its edit.
 use Prim.Native.Nat.{ℕ, _+_, _-_, _*_}
 use mathlib.Core.Bool.{Bool, true, false}
 use mathlib.Core.List.{List, [], _∷_}
 use lib.ListN.{length, take, drop, replicate}
 use Rattle.definition.specs.Start.{start}
 use Rattle.definition.specs.Width.{widthAt}
-use Rattle.definition.specs.Buffer.{overwriteAt, overwrite}
+use Rattle.definition.specs.Buffer.{overwriteAt, overwrite, joined}
 use Rattle.definition.specs.Refusal.{Refusal, STALE, pick, firstOf, whenDone}
-use Rattle.sheet_definition.specs.Sheet.{World, recordBytes, markWords, q}
-use Rattle.sheet_definition.specs.Refusals.{Lengths, lengthsOf, buildRefusals, changeRefusals, appendRefusals, dropRefusals, batchRefusals}
+use Rattle.sheet_definition.specs.Sheet.{World, recordBytes, markWords, q, cut}
+use Rattle.sheet_definition.specs.Struck.{standing, oldPlaces, firstStruck}
+use Rattle.sheet_definition.specs.Refusals.{Lengths, lengthsOf, buildRefusals, changeRefusals, appendRefusals, dropRefusals, batchRefusals, closeUpRefusals}
 use Rattle.sheet_definition.specs.Marks.{markOf, worked}
 use Rattle.sheet_definition.specs.Save.{SheetOutcome, refusedWith, doneWith, Edit, Save, saveOutcome}
+use Rattle.sheet_definition.specs.declared.Answer.{Answer}
 use Rattle.sheet_definition.specs.declared.Where.{Where}
 use Rattle.sheet_definition.specs.declared.Located.{Located}
 use Rattle.sheet_definition.specs.Own.{Own, withOwn, shared, compared, nowhere, staleAs, stale}
@@ -36,6 +38,8 @@ pub data Kind : Type 0 where
   Drop : Kind
   -- many changes: their places, and the new records one after the other
   Batch : (places records' : List ℕ) → Kind
+  -- closing up: the list lent for the old places
+  CloseUp : (places : List ℕ) → Kind
 
 -- a save may bring the planner's own count and marks
 pub record Call : Type 0 where
@@ -52,6 +56,7 @@ refusalsOf l k (Change place x) = changeRefusals l place (length x) k
 refusalsOf l k (Append x) = appendRefusals l (length x) k
 refusalsOf l k Drop = dropRefusals l k
 refusalsOf l k (Batch places x) = batchRefusals l places (length x) k
+refusalsOf l k (CloseUp places) = closeUpRefusals l (length places) k
 
 -- one record written at a place
 unfoldable pub oneRecord : World → (place : ℕ) → (record' : List ℕ) → (count : ℕ) → (marks : List ℕ) → Edit
@@ -65,7 +70,7 @@ oneRecord w place x count marks =
       works = true;
     }
 
--- the marks of n records past the last of count records zeroed: of a drop, "When r = 0 it zeroes mark q."
+-- "zeroes the old sheet's marks past the new last", from n records to count; of a drop, "When r = 0 it zeroes mark q."
 unfoldable pub pastLast : (n count : ℕ) → (marks : List ℕ) → List ℕ
 pastLast n count marks = overwriteAt (markWords * (q count + 1)) (replicate (markWords * (q n - q count)) 0) marks
 
@@ -99,12 +104,28 @@ manyRecords w places x =
       works = some places;
     }
 
+-- "A save "close up" removes them, keeps the rest in order, zeroes the freed bytes .., zeroes the old sheet's marks past the new last"; "on from the
+-- group of the first struck place, or from the last mark if none"
+unfoldable pub closedUp : World → Edit
+closedUp w =
+    let rs : List (List ℕ) = cut (w .n) (w .sheet) in
+    let count : ℕ = length (standing rs) in
+    record {
+      first = firstStruck rs;
+      past = w .n;
+      count = count;
+      sheet = overwriteAt (recordBytes * count) (replicate (recordBytes * (w .n - count)) 0) (overwrite (joined (standing rs)) (w .sheet));
+      marks = pastLast (w .n) count (w .marks);
+      works = true;
+    }
+
 -- "Change at place i replaces 40 bytes"; "Append writes record n"; "Drop zeroes the last record's bytes."
 unfoldable pub editOf : World → Kind → Edit
 editOf w (Change place x) = oneRecord w place x (w .n) (w .marks)
 editOf w (Append x) = oneRecord w (w .n) x (w .n + 1) (w .marks)
 editOf w Drop = oneRecord w (w .n - 1) (replicate recordBytes 0) (w .n - 1) (pastLast (w .n) (w .n - 1) (w .marks))
 editOf w (Batch places x) = manyRecords w places x
+editOf w (CloseUp places) = closedUp w
 
 -- "When it is stale, compare": the marks held with the planner's own, and the number that answers then
 abbrev pub comparing : World → Own → Where
@@ -150,6 +171,28 @@ batching places x = plain (Batch places x)
 
 abbrev pub batchOutcome : (code : ℕ) → (sheet : List ℕ) → (n : ℕ) → (marks places records' claim out : List ℕ) → SheetOutcome
 batchOutcome code sheet n marks places x claim out = call (lent code sheet n marks) (batching places x claim out)
+
+-- closing up: beside what every save leaves, the list lent for the old places; "writes for each new place the old one" where it is done
+pub record CloseUpOutcome : Type 0 where
+  pub answer : Answer
+  pub sheet : List ℕ
+  pub marks : List ℕ
+  pub places : List ℕ
+  pub out : List ℕ
+
+abbrev pub closingUp : (places claim out : List ℕ) → Call
+closingUp places = plain (CloseUp places)
+
+unfoldable pub closeUpOutcome : (code : ℕ) → (sheet : List ℕ) → (n : ℕ) → (marks claim places out : List ℕ) → CloseUpOutcome
+closeUpOutcome code sheet n marks claim places out =
+    let o : SheetOutcome = call (lent code sheet n marks) (closingUp places claim out) in
+    record {
+      answer = o .answer;
+      sheet = o .sheet;
+      marks = o .marks;
+      places = whenDone (o .answer .number) (overwrite (oldPlaces 0 (cut n sheet)) places) places;
+      out = o .out;
+    }
 
 -- a save that brings the planner's own marks: its answer says where, and the buffers are as they are at the end
 pub record OwnOutcome : Type 0 where

@@ -1,4 +1,4 @@
--- Changes saved one by one, each with the claim right at its time, beside which a batch is read: document 02, Q-4.
+-- Saves made one by one, each with the claim right at its time: changes, beside which a batch is read (document 02, Q-4), and appends.
 use mathlib.Core.Path.{_≡_}
 use Prim.Native.Nat.{ℕ, _+_, _≤_}
 use mathlib.Core.List.{List, [], _∷_}
@@ -6,13 +6,18 @@ use lib.ListN.{length, take, drop}
 use Rattle.sheet_definition.specs.Sheet.{World, recordBytes}
 use Rattle.sheet_definition.specs.Save.{checked}
 use Rattle.sheet_definition.specs.SheetCalls.{Kind, Call, plain, call, batching}
-use Rattle.sheet_definition.specs.SheetCalls.Kind.{Change}
+use Rattle.sheet_definition.specs.SheetCalls.Kind.{Change, Append}
 use Rattle.sheet_definition.specs.Run.{next, run, listAfter}
 
 -- the changes of a batch
 unfoldable pub changesOf : (places records' : List ℕ) → List Kind
 changesOf [] x = []
 changesOf (p ∷ ps) x = Change p (take recordBytes x) ∷ changesOf ps (drop recordBytes x)
+
+-- records appended one after the other
+unfoldable pub appendsOf : (records' : List (List ℕ)) → List Kind
+appendsOf [] = []
+appendsOf (x ∷ xs) = Append x ∷ appendsOf xs
 
 -- what saves that are all done make of a list of records
 unfoldable pub listAfterAll : List Kind → List (List ℕ) → List (List ℕ)
