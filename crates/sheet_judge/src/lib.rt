@@ -1,10 +1,10 @@
-// Which refusal comes first, from codes, numbers and lengths alone (document 01, "Refusal numbers"): a function for each refusal, and for each
-// call its list of them. Whether a claim is stale is judged afterwards.
+// Which refusal comes first, from codes, numbers and lengths alone (document 01, "Refusal numbers", and document 02, Q-11): a function for each
+// refusal, and for each call its list of them. Whether a claim is stale is judged afterwards.
 ghost use mathlib.Core.Path.{_≡_};
 ghost use mathlib.Core.List.{[], _∷_};
 ghost use Rattle.definition.specs.Luffa.{bytesAt};
 ghost use Rattle.definition.specs.Refusal.{firstOf, whenDone};
-ghost use Rattle.sheet_definition.specs.Refusals.{sheetRefusal, marksRefusal, placeRefusal, fullRefusal, sizeRefusal, claimRefusal, buildRefusals, changeRefusals, appendRefusals, dropRefusals};
+ghost use Rattle.sheet_definition.specs.Refusals.{sheetRefusal, marksRefusal, placeRefusal, fullRefusal, sizeRefusal, claimRefusal, listRefusal, buildRefusals, changeRefusals, appendRefusals, dropRefusals, closeUpRefusals};
 use sheet_definition::MARK;
 use sheet_definition::MOST;
 use sheet_definition::RECORD;
@@ -55,6 +55,13 @@ fn claim_size(code: usize, claim: usize) -> u32
     ensures { λ r. ⌜ r ≡ firstOf (claimRefusal (bytesAt code) claim ∷ []) ⌝ }
 {
     refusals::when(claim != 4 * codes::words(code), refusals::CLAIM)
+}
+
+// 23: whether the list has room for a place of each of n records.
+fn list_room(n: usize, places: usize) -> u32
+    ensures { λ r. ⌜ r ≡ firstOf (listRefusal n places ∷ []) ⌝ }
+{
+    refusals::when(places < n, refusals::PLACES)
 }
 
 // The four refusals that every sheet call begins with.
@@ -111,5 +118,20 @@ pub fn drop(code: usize, sheet: usize, n: usize, marks: usize, claim: usize, out
     ensures { λ r. ⌜ r ≡ firstOf (dropRefusals (record { code = code; n = n; sheetLength = sheet; marksLength = marks; outLength = out }) claim) ⌝ }
 {
     let own = refusals::first(has_place(n, 0), claim_size(code, claim));
+    refusals::first(build(code, sheet, n, marks, out), own)
+}
+
+pub fn close_up(
+    code: usize,
+    sheet: usize,
+    n: usize,
+    marks: usize,
+    places: usize,
+    claim: usize,
+    out: usize,
+) -> u32
+    ensures { λ r. ⌜ r ≡ firstOf (closeUpRefusals (record { code = code; n = n; sheetLength = sheet; marksLength = marks; outLength = out }) places claim) ⌝ }
+{
+    let own = refusals::first(list_room(n, places), claim_size(code, claim));
     refusals::first(build(code, sheet, n, marks, out), own)
 }
