@@ -13,8 +13,9 @@ use Rattle.plan_definition.specs.declared.Well.{Well}
 use Rattle.plan_definition.specs.Some.{Among}
 use Rattle.plan_definition.specs.Some.Among.{here, later}
 use Rattle.plan_definition.specs.Rules.{producer, used, total}
-use Rattle.plan_definition.specs.Sound.{Keeps, KeepsLinkCount, KeepsRate, KeepsShares, Sound}
+use Rattle.plan_definition.specs.Sound.{Keeps, MakesSense, KeepsLinkCount, KeepsRate, KeepsShares, Sound}
 use Rattle.plan_definition.proofs.Exactly.{equal}
+use Rattle.plan_definition.proofs.Struck.{of-kind}
 use Rattle.brine_definition.specs.Page.{brought, intakeFrom, produced}
 use Rattle.brine_definition.proofs.Sums.{pick-most}
 
@@ -35,8 +36,13 @@ module _ {all : List Well} where
       go zero e = let z : w .rate ≡ 0 = h .link-count .0 (equal (w .kind) 1 .0 p) .1 .0 e in rw z (omega arith)
       go (suc c) e = rw (h .shares (λ z. omega arith) .1) (omega arith)
 
+  -- a producer isn't struck
+  pub producer-keeps : {w : Well} → MakesSense all w → producer w ≡ true → Keeps all w
+  unfolding producer
+  producer-keeps {w} h p = h (of-kind w (λ z. omega (arith, equal (w .kind) 1 .0 p)))
+
   -- so each well brings an injector at most 100,000,000, and all of them so much for each
-  pub intake-among : (ws : List Well) → ((w : Well) → Among w ws → Keeps all w) → (k : ℕ) → intakeFrom ws k ≤ 100000000 * length ws
+  pub intake-among : (ws : List Well) → ((w : Well) → Among w ws → MakesSense all w) → (k : ℕ) → intakeFrom ws k ≤ 100000000 * length ws
   unfolding intakeFrom KeepsRate
   intake-among [] h k = omega arith
   intake-among (w ∷ ws) h k =
@@ -44,14 +50,15 @@ module _ {all : List Well} where
         arith,
         intake-among ws (λ v m. h v (later m)) k,
         pick-most (producer w) (brought (w .rate) (used w) k) 100000000 (λ p.
-            omega (arith, brought-most (w .rate) (used w) k, carried (h w here) p, h w here .rate)),
+            let keeps = producer-keeps (h w here) p in
+            omega (arith, brought-most (w .rate) (used w) k, carried keeps p, keeps .rate)),
       )
 
-  pub produced-among : (ws : List Well) → ((w : Well) → Among w ws → Keeps all w) → produced ws ≤ 100000 * length ws
+  pub produced-among : (ws : List Well) → ((w : Well) → Among w ws → MakesSense all w) → produced ws ≤ 100000 * length ws
   unfolding produced KeepsRate
   produced-among [] h = omega arith
   produced-among (w ∷ ws) h =
-      omega (arith, produced-among ws (λ v m. h v (later m)), pick-most (producer w) (w .rate) 100000 (λ p. h w here .rate))
+      omega (arith, produced-among ws (λ v m. h v (later m)), pick-most (producer w) (w .rate) 100000 (λ p. producer-keeps (h w here) p .rate))
 
 module _ (ws : List Well) (sound : Sound ws) where
   -- an injector's intake, and the producers' rates

@@ -17,8 +17,9 @@ use Rattle.plan_definition.specs.Some.{Among}
 use Rattle.plan_definition.specs.Some.Among.{here, later}
 use Rattle.plan_definition.specs.Well.{wellsFrom, wells}
 use Rattle.plan_definition.specs.Rules.{producer, injector, used, total}
-use Rattle.plan_definition.specs.Sound.{NamesInjector, Keeps, KeepsLinks, KeepsRepeat, Sound}
+use Rattle.plan_definition.specs.Sound.{NamesInjector, MakesSense, KeepsLinks, Sound}
 use Rattle.plan_definition.specs.Check.{sound}
+use Rattle.plan_definition.proofs.Struck.{once, named-number}
 use Rattle.plan_definition.proofs.Faults.{Rising, rising}
 use Rattle.plan_definition.proofs.Tested.{sound-tested}
 use Rattle.plan_definition.proofs.Listed.{length-wells}
@@ -27,7 +28,7 @@ use Rattle.brine_definition.specs.Page.{Row, brought, intakeFrom, rowOf,
 use Rattle.brine_definition.specs.Statement.{batch, page, intakes}
 use Rattle.brine_definition.proofs.Sums.{pick-zero, sum-zeros, pick-most, page-intakes}
 use Rattle.brine_definition.proofs.Sound.{faulted-intakes}
-use Rattle.brine_definition.proofs.Bounds.{carried, produced-most}
+use Rattle.brine_definition.proofs.Bounds.{carried, producer-keeps, produced-most}
 
 -- what some wells' injectors receive, if one of number k receives f k
 abbrev received : List Well → (ℕ → ℕ) → ℕ
@@ -49,25 +50,25 @@ received-none : (vs : List Well) (f : ℕ → ℕ) → ((v : Well) → Among v v
 received-none [] f h = refl
 received-none (v ∷ vs) f h = rw (h v here, pick-zero (injector v), received-none vs f (λ u m. h u (later m)))
 
--- the wells after each have other numbers
+-- the wells after each have other numbers, or 0, as struck records have
 abbrev Distinct : List Well → Type 0
 Distinct [] = Unit
-Distinct (w ∷ ws) = ((v : Well) → Among v ws → w .number ≡ v .number → ⊥) × Distinct ws
+Distinct (w ∷ ws) = ((v : Well) → Among v ws → w .number ≡ v .number → (v .number ≡ 0 → ⊥) → ⊥) × Distinct ws
 
 -- so what goes to one injector is received once
 abbrev to : (number kilograms : ℕ) → ℕ → ℕ
 to j a k = pick (eqb j k) a 0
 
-received-once : (j a : ℕ) {u : Well} {vs : List Well} → Distinct vs → Among u vs → u .number ≡ j → u .kind ≡ 2 → received vs (to j a) ≡ a
+received-once : (j a : ℕ) → (j ≡ 0 → ⊥) → {u : Well} {vs : List Well} → Distinct vs → Among u vs → u .number ≡ j → u .kind ≡ 2 → received vs (to j a) ≡ a
 unfolding injector pick
-received-once j a {u} d (here {l = vs}) e k =
-    let none = received-none vs (to j a) (λ v m. rw (ne-eqb j (v .number) (λ q. d .0 v m (e ∙ q)))) in
+received-once j a z {u} d (here {l = vs}) e k =
+    let none = received-none vs (to j a) (λ v m. rw (ne-eqb j (v .number) (λ q. d .0 v m (e ∙ q) (λ y. z (q ∙ y))))) in
     rw (eq-eqb j (u .number) (sym e), eq-eqb (u .kind) 2 k, none) (omega arith)
-received-once j a {u} d (later {b = v} {l = vs} m) e k =
-    rw (ne-eqb j (v .number) (λ q. d .0 u m (sym q ∙ sym e)), pick-zero (injector v), received-once j a (d .1) m e k)
+received-once j a z {u} d (later {b = v} {l = vs} m) e k =
+    rw (ne-eqb j (v .number) (λ q. d .0 u m (sym q ∙ sym e) (λ y. z (sym e ∙ y))), pick-zero (injector v), received-once j a z (d .1) m e k)
     (omega arith)
 
-module _ (ws : List Well) (apart : Distinct ws) where
+module _ (ws : List Well) (keeps : Sound ws) (apart : Distinct ws) where
   -- links that name injectors bring them what they carry
   links-bring : (rate : ℕ) (ls : List Link) → ((l : Link) → Among l ls → NamesInjector ws (l .injector))
       → received ws (brought rate ls) ≡ rate * total ls
@@ -76,10 +77,10 @@ module _ (ws : List Well) (apart : Distinct ws) where
   links-bring rate (l ∷ ls) h =
       let n = h l here in
       received-add ws (to (l .injector) (rate * l .share)) (brought rate ls)
-      ∙ omega (arith, received-once (l .injector) (rate * l .share) apart (n .1) (n .2) (n .3), links-bring rate ls (λ m a. h m (later a)))
+      ∙ omega (arith, received-once (l .injector) (rate * l .share) (named-number ws (l .injector) keeps n) apart (n .1) (n .2) (n .3), links-bring rate ls (λ m a. h m (later a)))
 
   -- and all producers' bring 1000 times their rates
-  producers-bring : (ps : List Well) → ((w : Well) → Among w ps → Keeps ws w) → received ws (intakeFrom ps) ≡ 1000 * produced ps
+  producers-bring : (ps : List Well) → ((w : Well) → Among w ps → MakesSense ws w) → received ws (intakeFrom ps) ≡ 1000 * produced ps
   unfolding intakeFrom produced KeepsLinks pick
   producers-bring [] h = received-none ws (λ k. 0) (λ v m. refl)
   producers-bring (w ∷ ps) h =
@@ -87,15 +88,14 @@ module _ (ws : List Well) (apart : Distinct ws) where
       ∙ omega (arith, one (producer w) refl, producers-bring ps (λ v m. h v (later m)))
     where
       one : (b : Bool) → producer w ≡ b → received ws (λ k. pick b (brought (w .rate) (used w) k) 0) ≡ 1000 * pick b (w .rate) 0
-      one true p = links-bring (w .rate) (used w) (h w here .links .0) ∙ carried (h w here) p
+      one true p = let k = producer-keeps (h w here) p in links-bring (w .rate) (used w) (k .links .0) ∙ carried k p
       one false p = received-none ws (λ k. 0) (λ v m. refl)
 
 -- numbers that don't repeat at places that rise
 distinct : (all ws : List Well) → ((w : Well) → Among w ws → Among w all) → Rising ws → Sound all → Distinct ws
-unfolding Sound KeepsRepeat
 distinct all [] i r h = tt
 distinct all (w ∷ ws) i r h =
-    (λ v m e. h v (i v (later m)) .repeat w (i w here) (r .0 v m) e, distinct all ws (λ v m. i v (later m)) (r .1) h)
+    (λ v m. once h (i w here) (i v (later m)) (r .0 v m), distinct all ws (λ v m. i v (later m)) (r .1) h)
 
 -- the intakes of a sound sheet are what its injectors receive
 pub when-intake : (b : Bool) (r : Row) → rowWhen b r .intake ≡ pick b (r .intake) 0
@@ -117,7 +117,7 @@ unfolding Sound
 conserved xs h =
     let ws = wellsFrom 0 xs in
     intakes-received ws (sound-tested ws .1 h)
-    ∙ producers-bring ws (distinct ws ws (λ w m. m) (rising 0 xs) h) ws h
+    ∙ producers-bring ws h (distinct ws ws (λ w m. m) (rising 0 xs) h) ws h
 
 -- so of any sheet, of which a faulted one's total nothing
 pub sheet-total : (n : ℕ) (sheet : List ℕ)

@@ -91,9 +91,9 @@ pub record Table : Type 0 where
   pub bytes-79 : (intake : List ℕ) (spare : List ℤ) → brineOutcome (replicate 79 0) (1 ∷ 1 ∷ []) intake spare ≡ turned SHEET intake spare
   pub intake-1-of-2 : (spare : List ℤ) → brineOutcome (replicate 80 0) (1 ∷ 1 ∷ []) (9 ∷ []) spare ≡ turned LIST (9 ∷ []) spare
   pub spare-1-of-2 : brineOutcome (replicate 80 0) (1 ∷ 1 ∷ []) (9 ∷ 9 ∷ []) (pos 9 ∷ []) ≡ turned LIST (9 ∷ 9 ∷ []) (pos 9 ∷ [])
-  -- two records of zeros, both sheets faulted: buffer and lists just long enough
+  -- two struck records, both sheets sound: buffer and lists just long enough
   pub just-enough : brineOutcome (replicate 80 0) (1 ∷ 1 ∷ []) (9 ∷ 9 ∷ []) (pos 9 ∷ pos 9 ∷ []) ≡ record {
-    answer = record { number = 0; sound = 0; faulted = 2; intake = 0; overloaded = 0 };
+    answer = record { number = 0; sound = 2; faulted = 0; intake = 0; overloaded = 0 };
     intake = 0 ∷ 0 ∷ [];
     spare = pos 0 ∷ pos 0 ∷ [];
   }

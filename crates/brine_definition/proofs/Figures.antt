@@ -21,6 +21,8 @@ use Rattle.plan_definition.specs.Sound.{Sound, KeepsRate}
 use Rattle.plan_definition.specs.Check.{sound}
 use Rattle.plan_definition.proofs.Tested.{sound-tested}
 use Rattle.plan_definition.proofs.Listed.{length-wells}
+use Rattle.plan_definition.proofs.Exactly.{equal}
+use Rattle.plan_definition.proofs.Struck.{of-kind}
 use Rattle.brine_definition.specs.Count.{sum}
 use Rattle.brine_definition.specs.Page.{Row, rowOf, rowWhen, rows, intakeFrom, rowIn}
 use Rattle.brine_definition.specs.Statement.{batch, page, spares, belowZero, statementOf}
@@ -45,16 +47,16 @@ among-length (later m) = omega arith
 
 -- as those of a sheet are, within 100,000,000 for each record
 module _ (ws : List Well) (m : ℕ) (h : 100000000 * length ws ≤ m) where
-  well-within : (w : Well) → Among w ws → (s i : Bool) → sound ws ≡ s → Within m (rowWhen (s && i) (rowOf ws w))
-  unfolding rowWhen rowOf Sound KeepsRate
-  well-within w a true true e =
+  well-within : (w : Well) → Among w ws → (s i : Bool) → sound ws ≡ s → injector w ≡ i → Within m (rowWhen (s && i) (rowOf ws w))
+  unfolding rowWhen rowOf injector Sound KeepsRate
+  well-within w a true true e k =
       let keeps = sound-tested ws .0 e in
       let most = intake-most ws keeps (w .number) in
-      let rate = keeps w a .rate in
+      let rate = keeps w a (of-kind w (λ z. omega (arith, equal (w .kind) 2 .0 k))) .rate in
       let one = among-length a in
       (omega arith, spare-within (w .rate) (intakeFrom ws (w .number)) (omega arith) (omega arith))
-  well-within w a true false e = (omega arith, omega arith)
-  well-within w a false i e = (omega arith, omega arith)
+  well-within w a true false e k = (omega arith, omega arith)
+  well-within w a false i e k = (omega arith, omega arith)
 
   rows-within : Every (Within m) (rows ws)
   unfolding rows
@@ -63,7 +65,7 @@ module _ (ws : List Well) (m : ℕ) (h : 100000000 * length ws ≤ m) where
       go : (vs : List Well) → ((w : Well) → Among w vs → Among w ws)
           → Every (Within m) (map (rowIn ws) vs)
       go [] i = tt
-      go (v ∷ vs) i = (well-within v (i v here) (sound ws) (injector v) refl, go vs (λ w a. i w (later a)))
+      go (v ∷ vs) i = (well-within v (i v here) (sound ws) (injector v) refl refl, go vs (λ w a. i w (later a)))
 
 page-within : (m : ℕ) (counts sheets : List ℕ) → 100000000 * sum counts ≤ m → Every (Within m) (page (batch counts sheets))
 unfolding batch page sum

@@ -16,7 +16,8 @@ use Rattle.plan_definition.specs.Some.{Among}
 use Rattle.plan_definition.specs.Some.Among.{here, later}
 use Rattle.plan_definition.specs.Well.{wellOf, wells}
 use Rattle.plan_definition.specs.Rules.{producer, injector, used}
-use Rattle.plan_definition.specs.Sound.{KeepsLinkCount, KeepsLinks, KeepsRepeat, NamesInjector, Sound}
+use Rattle.plan_definition.specs.Sound.{KeepsLinkCount, KeepsLinks, NamesInjector, Sound}
+use Rattle.plan_definition.proofs.Struck.{of-kind, of-link, once, named-number}
 use Rattle.plan_definition.proofs.Places.{wellAt, wells-at}
 use Rattle.plan_definition.proofs.Listed.{number-fits}
 use Rattle.plan_record.specs.Total.{wellIn}
@@ -53,12 +54,11 @@ module _ {n : ℕ} {sheet t : List ℕ} (g : Given n sheet t) where
   unfolding wellOf
   apart p j h = h
 
-  -- and no other well has it, so the table finds its place
-  pub found : (p : ℕ) → p < n → getD (placed sheet n t) (wellAt p sheet .number) 0 ≡ p
-  unfolding Sound KeepsRepeat
-  found p h =
+  -- and no other well has its number, so the table finds its place
+  pub found : (p : ℕ) → p < n → (wellAt p sheet .number ≡ 0 → ⊥) → getD (placed sheet n t) (wellAt p sheet .number) 0 ≡ p
+  found p h d =
       rw (← reads p h) (placed-at sheet n t p h (omega (arith, g .few)) (rw (reads p h, g .long) (number-fits sheet (g .bytes) p))
-      (λ j a l e. g .sound (wellAt j sheet) (there j l) .repeat (wellAt p sheet) (there p h) (apart p j a) (sym (rw (reads j l, reads p h) at e))))
+      (λ j a l e. let f = rw (reads j l, reads p h) at e in once (g .sound) (there p h) (there j l) (apart p j a) (sym f) (λ z. d (sym f ∙ z))))
     where
       reads : (j : ℕ) → j < n → wellIn sheet j ≡ wellAt j sheet
       reads j l = well-read sheet j (omega (arith, g .room))
@@ -69,17 +69,19 @@ module _ {n : ℕ} {sheet t : List ℕ} (g : Given n sheet t) where
   -- a link that a well uses names the injector at some place, and the table finds that
   named : (w : Well) → Among w (wells n sheet) → (l : Link) → Among l (used w)
       → (p : ℕ) × (p < n) × (wellAt p sheet .number ≡ l .injector) × (wellAt p sheet .kind ≡ 2) × (getD (placed sheet n t) (l .injector) 0 ≡ p)
+      × (l .injector ≡ 0 → ⊥)
   unfolding Sound KeepsLinks NamesInjector
   named w m l k =
-      let v = g .sound w m .links .0 l k in
+      let v = g .sound w m (of-link w k) .links .0 l k in
+      let z = named-number (wells n sheet) (l .injector) (g .sound) v in
       let at = wells-at n sheet (v .0) .0 (v .1) in
       let number : wellAt (at .0) sheet .number ≡ l .injector = rw (at .2) at (v .2) in
-      (at .0, at .1, number, rw (at .2) at (v .3), ap (λ (k : ℕ). getD (placed sheet n t) k 0) (sym number) ∙ found (at .0) (at .1))
+      (at .0, at .1, number, rw (at .2) at (v .3), ap (λ (k : ℕ). getD (placed sheet n t) k 0) (sym number) ∙ found (at .0) (at .1) (λ y. z (sym number ∙ y)), z)
 
   -- so all links of producers lead to places of the sheet
   pub all-named : AllNamed (placed sheet n t) n (wells n sheet)
   unfolding AllNamed Named Sound KeepsLinkCount
-  all-named w m e = (g .sound w m .link-count .0 e .0, λ l k. let p = named w m l k in rw (p .4) (p .1))
+  all-named w m e = (g .sound w m (of-kind w (λ z. omega arith)) .link-count .0 e .0, λ l k. let p = named w m l k in rw (p .4) (p .1))
 
   -- a link leads to a place exactly where it names the injector there
   leads : (w : Well) → Among w (wells n sheet) → (l : Link) → Among l (used w) → (q : ℕ) → q < n
@@ -94,7 +96,7 @@ module _ {n : ℕ} {sheet t : List ℕ} (g : Given n sheet t) where
             rw (eq-eqb _ q (p .4 ∙ e), eq-eqb _ 2 kind, eq-eqb (l .injector) _ (sym number))
         | no e ↦
             let other : l .injector ≡ wellAt q sheet .number → ⊥ =
-            λ f. e (sym (p .4) ∙ ap (λ (k : ℕ). getD (placed sheet n t) k 0) f ∙ found q h) in
+            λ f. e (sym (p .4) ∙ ap (λ (k : ℕ). getD (placed sheet n t) k 0) f ∙ found q h (λ z. p .5 (f ∙ z))) in
             rw (ne-eqb _ q (λ f. e (sym (p .4) ∙ f)), ne-eqb (l .injector) _ other) (sym (and-false (injector (wellAt q sheet))))
       ]
 

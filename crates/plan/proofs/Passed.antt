@@ -5,10 +5,10 @@ use mathlib.Core.Bool.{Bool, true, false, _||_}
 use mathlib.Core.List.{List, _∷_}
 use Prim.Native.Nat.{ℕ}
 use lib.Dec.{eqb}
-use Rattle.definition.specs.Refusal.{firstOf}
+use Rattle.definition.specs.Refusal.{pick, firstOf}
 use Rattle.plan_definition.specs.declared.Well.{Well}
 use Rattle.plan_definition.specs.Some.{some}
-use Rattle.plan_definition.specs.Rules.{injector, isInjectorOf, isBefore, rulesBy, rulesAt}
+use Rattle.plan_definition.specs.Rules.{injector, struck, isInjectorOf, isBefore, rulesBy, rulesAt}
 use Rattle.plan_numbers.specs.Numbers.{has, plus}
 
 -- two numbers are put in either order
@@ -29,8 +29,8 @@ module _ (w : Well) (ws : List Well) (t : List ℕ) (k : ℕ) where
   unfolding isInjectorOf some
   with-other e = rw e
 
--- the rules by sets that stand for a sheet's injectors and for the places before a well are that well's rules in the sheet
+-- the rules by sets that stand for a sheet's injectors and for the places before a well that isn't struck are that well's rules in the sheet
 pub by-sets : (ws : List Well) (f g : ℕ → Bool) (v w : Well) → f ≡ isInjectorOf ws → ((k : ℕ) → g k ≡ isBefore ws (w .place) k) → v ≡ w
-    → firstOf (rulesBy f g v) ≡ firstOf (rulesAt ws w)
-unfolding rulesAt
-by-sets ws f g v w p q r = λ i. firstOf (rulesBy (p i) (fun-ext q i) (r i))
+    → struck w ≡ false → firstOf (rulesBy f g v) ≡ firstOf (rulesAt ws w)
+unfolding rulesAt pick
+by-sets ws f g v w p q r s = rw s (λ i. firstOf (rulesBy (p i) (fun-ext q i) (r i)))

@@ -44,7 +44,8 @@ fn rule_of(number: u64) -> Rule
     }
 }
 
-// The lowest place where a rule is broken, with the first rule that is. The numbers of the places that were passed go into a set.
+// The lowest place where a rule is broken, with the first rule that is. The numbers of the places that were passed go into a set. A struck record is
+// asked for no rule, and its number isn't met.
 fn first_broken(sheet: &[u8], n: usize, injectors: &[u64; 1024]) -> Verdict
     requires { ⌜ (40 * n ≤ length (now sheet)) × (has (now injectors) ≡ isInjectorOf (wells n (now sheet))) ⌝ }
     ensures { λ r. ⌜ r ≡ firstFault (wells n (now (sheet .entry))) (wells n (now (sheet .entry))) ⌝ }
@@ -53,11 +54,13 @@ fn first_broken(sheet: &[u8], n: usize, injectors: &[u64; 1024]) -> Verdict
     let mut i = 0;
     while i < n {
         let w = plan_record::read(sheet, i);
-        let rule = plan_rules::broken(w, injectors, &seen);
-        if rule != plan_rules::NONE {
-            return Verdict::Fault(rule_of(rule), i);
+        if !plan_rules::struck(w) {
+            let rule = plan_rules::broken(w, injectors, &seen);
+            if rule != plan_rules::NONE {
+                return Verdict::Fault(rule_of(rule), i);
+            }
+            plan_numbers::put(&mut seen, w.number);
         }
-        plan_numbers::put(&mut seen, w.number);
         i += 1;
     }
     Verdict::Sound

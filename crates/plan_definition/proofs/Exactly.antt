@@ -1,6 +1,6 @@
 -- Tests put together: one that passes, or fails, exactly where a statement holds, from such tests.
 -- Assumes nothing.
-use mathlib.Core.Path.{_≡_, refl}
+use mathlib.Core.Path.{_≡_, refl, sym}
 use mathlib.Core.Logic.{_↔_, _⊎_, inl, inr}
 use mathlib.Core.Bool.{Bool, true, false, not, _&&_, _||_, true≢false, false≢true}
 use mathlib.Core.List.{List}
@@ -18,6 +18,16 @@ Passes b A = (b ≡ true) ↔ A
 
 abbrev pub Fails : Bool → Type 0 → Type 0
 Fails b A = (b ≡ false) ↔ A
+
+-- two tests that pass alike are equal, and one that doesn't pass fails
+pub alike : {a b : Bool} → (a ≡ true → b ≡ true) → (b ≡ true → a ≡ true) → a ≡ b
+alike {a = true} {b = b} f g = sym (f refl)
+alike {a = false} {b = true} f g = absurd (false≢true (g refl))
+alike {a = false} {b = false} f g = refl
+
+pub not-passing : {a : Bool} → (a ≡ true → ⊥) → a ≡ false
+not-passing {a = true} f = absurd (f refl)
+not-passing {a = false} f = refl
 
 -- the tests of two numbers
 module _ (a b : ℕ) where

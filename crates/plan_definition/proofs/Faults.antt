@@ -1,14 +1,15 @@
--- What the search for the first fault finds: none exactly where every well keeps the rules, and else the lowest faulty place with the first
+-- What the search for the first fault finds: none exactly where every record makes sense, and else the lowest faulty place with the first
 -- rule broken there.
 -- Assumes nothing.
 use mathlib.Core.Path.{_≡_, refl, sym, _∙_}
 use mathlib.Core.Logic.{_↔_, Iff·trans}
+use mathlib.Core.Bool.{Bool, true, false}
 use mathlib.Core.List.{List, [], _∷_}
 use Prim.Native.Nat.{ℕ, zero, suc, _<_, _≤_}
 use native.Mathlib.Nat.{le-refl}
 use native.Mathlib.Omega.{arith}
-use Rattle.definition.specs.Refusal.{firstOf}
-use Rattle.definition.specs.Refusal.{First}
+use Rattle.definition.specs.Refusal.{Refusal, First, pick, firstOf}
+use Rattle.definition.specs.Buffer.{Every}
 use Rattle.definition.proofs.Refusals.{of-first, first-given, given-first, none-exactly}
 use Rattle.plan_definition.specs.declared.Well.{Well}
 use Rattle.plan_definition.specs.declared.Rule.{Rule}
@@ -18,8 +19,8 @@ use Rattle.plan_definition.specs.declared.Verdict.the-variants.{Sound, F
 use Rattle.plan_definition.specs.Some.{Among}
 use Rattle.plan_definition.specs.Some.Among.{here, later}
 use Rattle.plan_definition.specs.Well.{wellOf, wellsFrom}
-use Rattle.plan_definition.specs.Rules.{ruleNumber, rulesBy, rulesAt}
-use Rattle.plan_definition.specs.Sound.{Keeps}
+use Rattle.plan_definition.specs.Rules.{struck, ruleNumber, rulesBy, rulesAt}
+use Rattle.plan_definition.specs.Sound.{MakesSense}
 use Rattle.plan_definition.specs.Check.{ruleOf, foundAt, firstFault}
 use Rattle.plan_definition.proofs.Some.{none-among, among-cons}
 use Rattle.plan_definition.proofs.Ranked.{keeps}
@@ -66,42 +67,48 @@ pub record FaultAmong (all ws : List Well) (rule : Rule) (place : ℕ) : Type 0 
   pub among : Among well ws
   pub at : well .place ≡ place
   pub first-broken : First (ruleNumber rule) (rulesAt all well)
-  pub before : (v : Well) → Among v ws → v .place < place → Keeps all v
+  pub before : (v : Well) → Among v ws → v .place < place → MakesSense all v
 
 abbrev pub FirstFault : List Well → Rule → (place : ℕ) → Type 0
 FirstFault ws = FaultAmong ws ws
 
+-- what holds of every number of a list holds of those of none
+exempt : (P : ℕ → Type 0) (b : Bool) (rs : List Refusal) → Every (λ r. P (r .0)) rs → Every (λ r. P (r .0)) (pick b [] rs)
+unfolding pick
+exempt P true rs h = tt
+exempt P false rs h = h
+
 module _ (all : List Well) where
-  -- 0 stands for a well that keeps the rules, any other number for one of them
-  no-fault : (w : Well) → (firstOf (rulesAt all w) ≡ 0) ↔ Keeps all w
+  -- 0 stands for a record that makes sense, any other number for a rule
+  no-fault : (w : Well) → (firstOf (rulesAt all w) ≡ 0) ↔ MakesSense all w
   unfolding rulesAt rulesBy
-  no-fault w = Iff·trans (none-exactly (rulesAt all w) (omega arith)) (keeps all w)
+  no-fault w = Iff·trans (none-exactly (rulesAt all w) (exempt (λ k. 0 < k) (struck w) _ (omega arith))) (keeps all w)
 
   number-back : (w : Well) {k : ℕ} → First k (rulesAt all w) → ruleNumber (ruleOf k) ≡ k
   unfolding rulesAt rulesBy ruleOf
-  number-back w f = of-first (λ k. ruleNumber (ruleOf k) ≡ k) f (search)
+  number-back w f = of-first (λ k. ruleNumber (ruleOf k) ≡ k) f (exempt (λ k. ruleNumber (ruleOf k) ≡ k) (struck w) _ (search))
 
-  -- sound exactly when every well keeps the rules
-  pub none-faulty : (ws : List Well) → (firstFault all ws ≡ Sound) ↔ ((w : Well) → Among w ws → Keeps all w)
+  -- sound exactly when every record makes sense
+  pub none-faulty : (ws : List Well) → (firstFault all ws ≡ Sound) ↔ ((w : Well) → Among w ws → MakesSense all w)
   unfolding firstFault foundAt
   none-faulty [] = (λ e w m. absurd (none-among m), λ h. refl)
   none-faulty (w ∷ ws) = go (firstOf (rulesAt all w)) refl (none-faulty ws)
     where
-      go : (k : ℕ) → firstOf (rulesAt all w) ≡ k → (firstFault all ws ≡ Sound) ↔ ((v : Well) → Among v ws → Keeps all v)
-          → (foundAt k (w .place) (firstFault all ws) ≡ Sound) ↔ ((v : Well) → Among v (w ∷ ws) → Keeps all v)
-      go zero e i = (λ f. among-cons (Keeps all) (no-fault w .0 e) (i .0 f), λ h. i .1 (λ v m. h v (later m)))
+      go : (k : ℕ) → firstOf (rulesAt all w) ≡ k → (firstFault all ws ≡ Sound) ↔ ((v : Well) → Among v ws → MakesSense all v)
+          → (foundAt k (w .place) (firstFault all ws) ≡ Sound) ↔ ((v : Well) → Among v (w ∷ ws) → MakesSense all v)
+      go zero e i = (λ f. among-cons (MakesSense all) (no-fault w .0 e) (i .0 f), λ h. i .1 (λ v m. h v (later m)))
       go (suc k) e i = (λ f. let z : _≡_ {A = ℕ} 0 1 = cc in absurd (omega arith), λ h. absurd (omega (arith, no-fault w .1 (h w here))))
 
-  -- a fault exactly when it is the first: at a well that keeps the rules as among those after it, else at the well itself
+  -- a fault exactly when it is the first: at a record that makes sense as among those after it, else at the well itself
   module _ (rule : Rule) (place : ℕ) (w : Well) (ws : List Well) where
-    passed : Keeps all w → FaultAmong all ws rule place ↔ FaultAmong all (w ∷ ws) rule place
+    passed : MakesSense all w → FaultAmong all ws rule place ↔ FaultAmong all (w ∷ ws) rule place
     passed h = (
       λ s. record {
         well = s .well;
         among = later (s .among);
         at = s .at;
         first-broken = s .first-broken;
-        before = among-cons (λ v. v .place < place → Keeps all v) (λ l. h) (s .before);
+        before = among-cons (λ v. v .place < place → MakesSense all v) (λ l. h) (s .before);
       },
       λ s. record {
         well = s .well;
@@ -130,7 +137,7 @@ module _ (all : List Well) where
               among = here;
               at = p;
               first-broken = rw (← a, number-back w b) b;
-              before = among-cons (λ v. v .place < place → Keeps all v) (λ h. absurd (omega arith)) (λ v m h. absurd (omega (arith, r v m)));
+              before = among-cons (λ v. v .place < place → MakesSense all v) (λ h. absurd (omega arith)) (λ v m h. absurd (omega (arith, r v m)));
             }
 
         back : FaultAmong all (w ∷ ws) rule place → (v : Well) → Among v (w ∷ ws) → v .place ≡ place

@@ -1,13 +1,14 @@
 -- The hypotheses of the check's laws can be met: a sound sheet, a faulted one, and two sheets that differ where it isn't read.
 -- Assumes nothing.
-use mathlib.Core.Path.{_≡_, sym, ap, _∙_}
+use mathlib.Core.Path.{_≡_, refl, sym, ap, _∙_}
 use mathlib.Core.Bool.{Bool}
 use mathlib.Core.List.{List, [], _∷_, _++_}
-use Prim.Native.Nat.{ℕ, _+_, _*_, _≤_}
+use Prim.Native.Nat.{ℕ, zero, suc, _+_, _*_, _<_, _≤_}
 use native.Mathlib.Omega.{arith}
 use lib.Dec.{eqb, eqb→eq}
-use lib.ListN.{length, getD, take, replicate}
+use lib.ListN.{length, getD, take, drop, replicate}
 use Rattle.definition.specs.Buffer.{joined}
+use Rattle.sheet_definition.specs.Struck.{allZero}
 use Rattle.definition.proofs.Cases.{everyBelow, at-below}
 use Rattle.plan_definition.specs.declared.Rule.the-variants.{Repeat}
 use Rattle.plan_definition.specs.declared.Verdict.the-variants.{Sound}
@@ -42,11 +43,16 @@ unfolding joined
 not-plan e = let z : _≡_ {A = ℕ} 1 7 = ap (λ (l : List ℕ). getD l 24 0) e in omega arith
 
 pub noted-sound : verdict noted 2 ≡ Sound
-unfolding joined
+unfolding joined allZero
 noted-sound =
-    sym (elsewhere 2 plan noted (omega arith) (omega arith) (λ p j h k.
-    eqb→eq _ _ (at-below 24 (read p) (at-below 2 (λ p. everyBelow 24 (read p)) tt p h) j k)))
+    sym (elsewhere 2 plan noted (λ p j h k.
+    eqb→eq _ _ (at-below 24 (read p) (at-below 2 (λ p. everyBelow 24 (read p)) tt p h) j k)) none-struck (omega arith) (omega arith))
     ∙ content-examples .producer-and-injector
   where
+    none-struck : (p : ℕ) → p < 2 → allZero (take 40 (drop (40 * p) plan)) ≡ allZero (take 40 (drop (40 * p) noted))
+    none-struck zero h = refl
+    none-struck (suc zero) h = refl
+    none-struck (suc (suc p)) h = absurd (omega arith)
+
     read : ℕ → ℕ → Bool
     read p j = eqb (getD plan (40 * p + j) 0) (getD noted (40 * p + j) 0)

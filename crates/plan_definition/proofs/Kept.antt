@@ -2,16 +2,17 @@
 -- Assumes nothing.
 use mathlib.Core.Path.{_≡_, refl, sym}
 use mathlib.Core.Logic.{_↔_, Iff·trans}
+use mathlib.Core.Bool.{true, false, not}
 use mathlib.Core.List.{List, [], _∷_}
 use Prim.Native.Nat.{ℕ, zero, suc, _<_}
 use native.Mathlib.Omega.{arith}
 use lib.ListN.{length, getD}
 use Rattle.plan_definition.specs.declared.Link.{Link}
 use Rattle.plan_definition.specs.declared.Well.{Well}
-use Rattle.plan_definition.specs.Some.{Among}
+use Rattle.plan_definition.specs.Some.{some, Among}
 use Rattle.plan_definition.specs.Some.Among.{here, later}
 use Rattle.plan_definition.specs.Well.{noLink}
-use Rattle.plan_definition.specs.Rules.{producer, injector, used, unused, total, breaksNumber, breaksKind, breaksLinkCount, breaksRate, namesSame, misnamed, breaksLinks, noShare, breaksShares, notZero, breaksUnusedLinks, breaksRepeat, isInjectorOf, isBefore}
+use Rattle.plan_definition.specs.Rules.{producer, injector, used, unused, total, breaksNumber, breaksKind, breaksLinkCount, breaksRate, namesSame, misnamed, breaksLinks, noShare, breaksShares, notZero, breaksUnusedLinks, struck, hasNumber, breaksRepeat, isInjectorOf, isBefore}
 use Rattle.plan_definition.specs.Sound.{KeepsNumber, KeepsKind, KeepsLinkCount, KeepsRate, NamesInjector, KeepsLinks, KeepsShares, KeepsUnusedLinks, KeepsRepeat}
 use Rattle.plan_definition.proofs.Some.{none-among, among-cons, at-index, index-of}
 use Rattle.plan_definition.proofs.Exactly.{Passes, Fails, less, not-less, at-most, equal, not-equal, not-passes, not-fails, either, neither, both, where-first, agree, one-passes, none-passes}
@@ -48,19 +49,27 @@ shares-kept w =
     (not-fails (equal (total (used w)) 1000)))
 
 -- the links that aren't used are zero
+pub zero-links : (ls : List Link) → Fails (some notZero ls) ((l : Link) → Among l ls → (l .injector ≡ 0) × (l .share ≡ 0))
+unfolding notZero
+zero-links ls = none-passes ls (λ l. not-fails (both (equal (l .injector) 0) (equal (l .share) 0)))
+
 pub unused-links-kept : (w : Well) → Fails (breaksUnusedLinks w) (KeepsUnusedLinks w)
-unfolding breaksUnusedLinks notZero KeepsUnusedLinks
-unused-links-kept w = none-passes (unused w) (λ l. not-fails (both (equal (l .injector) 0) (equal (l .share) 0)))
+unfolding breaksUnusedLinks KeepsUnusedLinks
+unused-links-kept w = zero-links (unused w)
+
+-- a record that isn't struck
+pub stands : (w : Well) → Passes (not (struck w)) (struck w ≡ false)
+stands w = not-passes (λ e. e, λ e. e)
 
 -- no place before has the number
 pub repeat-kept : (ws : List Well) (w : Well) → Fails (breaksRepeat (isBefore ws (w .place)) w) (KeepsRepeat ws w)
-unfolding breaksRepeat isBefore KeepsRepeat
-repeat-kept ws w = none-passes ws (λ v. where-first (less (v .place) (w .place)) (not-equal (v .number) (w .number)))
+unfolding breaksRepeat isBefore hasNumber KeepsRepeat
+repeat-kept ws w = none-passes ws (λ v. where-first (less (v .place) (w .place)) (where-first (stands v) (not-equal (v .number) (w .number))))
 
 -- a number stands before a place exactly when a well there has it
-pub earlier : (ws : List Well) (p k : ℕ) → Passes (isBefore ws p k) ((v : Well) × Among v ws × ((v .place < p) × (v .number ≡ k)))
+pub earlier : (ws : List Well) (p k : ℕ) → Passes (isBefore ws p k) ((v : Well) × Among v ws × ((v .place < p) × (hasNumber k v ≡ true)))
 unfolding isBefore
-earlier ws p k = one-passes ws (λ v. both (less (v .place) p) (equal (v .number) k))
+earlier ws p k = one-passes ws (λ v. both (less (v .place) p) (λ e. e, λ e. e))
 
 -- a number is an injector's exactly when it names one
 pub named : (ws : List Well) (k : ℕ) → Passes (isInjectorOf ws k) (NamesInjector ws k)

@@ -2,6 +2,7 @@
 pub mod Some
 pub mod Exactly
 pub mod Kept
+pub mod Struck
 pub mod Ranked
 pub mod Links
 pub mod Filled

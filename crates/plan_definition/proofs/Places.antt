@@ -1,29 +1,23 @@
 -- The wells of a sheet stand at the places below n, one at each; and how a loop over the places finds them one by one.
 -- Assumes nothing.
-use mathlib.Core.Path.{_≡_, refl, sym}
+use mathlib.Core.Path.{_≡_, refl, sym, _∙_}
 use mathlib.Core.Logic.{_↔_, Iff·trans}
 use mathlib.Core.Bool.{Bool, true, false, _||_, false≢true}
 use mathlib.Core.List.{List, [], _∷_}
 use Prim.Native.Nat.{ℕ, zero, suc, _+_, _-_, _*_, _<_}
 use native.Mathlib.Omega.{arith}
-use lib.Dec.{eqb}
 use lib.ListN.{take, drop}
 use lib.Seq.{drop-drop}
-use borrow.Author.Tests.{le-ltb, eqb-true, eqb-false}
+use borrow.Author.Tests.{le-ltb}
 use Rattle.sheet_definition.specs.Sheet.{cut}
 use Rattle.plan_definition.specs.declared.Well.{Well}
 use Rattle.plan_definition.specs.Some.{Among}
 use Rattle.plan_definition.specs.Some.Among.{here, later}
 use Rattle.plan_definition.specs.Well.{wellOf, wellsFrom, wells}
-use Rattle.plan_definition.specs.Rules.{isBefore}
+use Rattle.plan_definition.specs.Rules.{hasNumber, isBefore}
 use Rattle.plan_definition.proofs.Some.{none-among, among-cons, some-false}
+use Rattle.plan_definition.proofs.Exactly.{alike}
 use Rattle.plan_definition.proofs.Kept.{earlier}
-
--- two tests that pass alike are equal
-alike : {a b : Bool} → (a ≡ true → b ≡ true) → (b ≡ true → a ≡ true) → a ≡ b
-alike {a = true} {b = b} f g = sym (f refl)
-alike {a = false} {b = true} f g = absurd (false≢true (g refl))
-alike {a = false} {b = false} f g = refl
 
 -- the well at a place, and those from a place on
 abbrev pub wellAt : (place : ℕ) → (sheet : List ℕ) → Well
@@ -71,7 +65,7 @@ module _ (n : ℕ) (sheet : List ℕ) where
       (λ m. at-place n 0 w (omega arith) (rw left-all m), λ s. rw (← left-all, s .2) (placed (s .0) 0 (s .0) (omega arith) (s .1)))
 
   -- a place before j has the number
-  pub before-exactly : (j k : ℕ) → (isBefore (wells n sheet) j k ≡ true) ↔ ((p : ℕ) × (p < n) × (p < j) × (wellAt p sheet .number ≡ k))
+  pub before-exactly : (j k : ℕ) → (isBefore (wells n sheet) j k ≡ true) ↔ ((p : ℕ) × (p < n) × (p < j) × (hasNumber k (wellAt p sheet) ≡ true))
   unfolding wellOf
   before-exactly j k =
       Iff·trans (earlier (wells n sheet) j k) (
@@ -86,18 +80,18 @@ module _ (n : ℕ) (sheet : List ℕ) where
 
   -- before the place after i there is place i too
   pub before-step : (i k : ℕ) → i < n
-      → isBefore (wells n sheet) (suc i) k ≡ (eqb (wellAt i sheet .number) k || isBefore (wells n sheet) i k)
-  before-step i k h = go (eqb (wellAt i sheet .number) k) refl
+      → isBefore (wells n sheet) (suc i) k ≡ (hasNumber k (wellAt i sheet) || isBefore (wells n sheet) i k)
+  before-step i k h = go (hasNumber k (wellAt i sheet)) refl
     where
-      other : eqb (wellAt i sheet .number) k ≡ false → isBefore (wells n sheet) (suc i) k ≡ true → isBefore (wells n sheet) i k ≡ true
+      other : hasNumber k (wellAt i sheet) ≡ false → isBefore (wells n sheet) (suc i) k ≡ true → isBefore (wells n sheet) i k ≡ true
       other e t =
           let s = before-exactly (suc i) k .0 t in
-          let d : s .0 ≡ i → ⊥ = λ q. eqb-false _ k e (rw q at (s .3)) in
+          let d : s .0 ≡ i → ⊥ = λ q. false≢true (sym e ∙ (rw q at (s .3))) in
           before-exactly i k .1 (s .0, s .1, omega arith, s .3)
 
       still : isBefore (wells n sheet) i k ≡ true → isBefore (wells n sheet) (suc i) k ≡ true
       still t = let s = before-exactly i k .0 t in before-exactly (suc i) k .1 (s .0, s .1, omega arith, s .3)
 
-      go : (b : Bool) → eqb (wellAt i sheet .number) k ≡ b → isBefore (wells n sheet) (suc i) k ≡ (b || isBefore (wells n sheet) i k)
-      go true e = before-exactly (suc i) k .1 (i, h, omega arith, eqb-true _ k e)
+      go : (b : Bool) → hasNumber k (wellAt i sheet) ≡ b → isBefore (wells n sheet) (suc i) k ≡ (b || isBefore (wells n sheet) i k)
+      go true e = before-exactly (suc i) k .1 (i, h, omega arith, e)
       go false e = alike (other e) still

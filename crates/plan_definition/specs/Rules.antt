@@ -75,6 +75,16 @@ notZero l = not (eqb (l .injector) 0 && eqb (l .share) 0)
 unfoldable pub breaksUnusedLinks : Well → Bool
 breaksUnusedLinks w = some notZero (unused w)
 
+-- "a struck record: all 40 bytes zero" (Q-11)
+unfoldable pub struck : Well → Bool
+struck w =
+    eqb (w .number) 0
+    && (eqb (w .kind) 0 && (eqb (w .count) 0 && (eqb (w .rate) 0 && (not (some notZero (w .links)) && not (w .noted)))))
+
+-- whether a well has a number: "a struck record is no well"
+unfoldable pub hasNumber : (number : ℕ) → Well → Bool
+hasNumber k w = not (struck w) && eqb (w .number) k
+
 -- "Well numbers don't repeat."
 unfoldable pub breaksRepeat : (isEarlier : ℕ → Bool) → Well → Bool
 breaksRepeat isEarlier w = isEarlier (w .number)
@@ -85,7 +95,7 @@ isInjectorOf ws k = some (λ v. injector v && eqb (v .number) k) ws
 
 -- "A repeat is the fault of the later place": whether a place before this one has the number
 unfoldable pub isBefore : List Well → (place number : ℕ) → Bool
-isBefore ws p k = some (λ v. ltb (v .place) p && eqb (v .number) k) ws
+isBefore ws p k = some (λ v. ltb (v .place) p && hasNumber k v) ws
 
 -- this paper's numbers of the rules
 abbrev pub ruleNumber : Rule → ℕ
@@ -112,6 +122,6 @@ rulesBy isInjector isEarlier w =
     ∷ (ruleNumber Repeat, breaksRepeat isEarlier w)
     ∷ []
 
--- the rules of a well among the wells of its sheet
+-- the rules of a well among the wells of its sheet: "Q-1 admits a struck record: .. exempt from its rules and from the repeat rule" (Q-11)
 unfoldable pub rulesAt : List Well → Well → List Refusal
-rulesAt ws w = rulesBy (isInjectorOf ws) (isBefore ws (w .place)) w
+rulesAt ws w = pick (struck w) [] (rulesBy (isInjectorOf ws) (isBefore ws (w .place)) w)

@@ -2,14 +2,16 @@
 use Prim.Native.Nat.{ℕ, _<_, _≤_}
 use mathlib.Core.Path.{_≡_}
 use mathlib.Core.Logic.{_↔_, _⊎_}
+use mathlib.Core.Bool.{false}
 use mathlib.Core.List.{List, [], _∷_}
 use lib.ListN.{length, getD}
+use Rattle.definition.specs.Refusal.{pick}
 use Rattle.plan_definition.specs.declared.Link.{Link}
 use Rattle.plan_definition.specs.declared.Well.{Well}
 use Rattle.plan_definition.specs.Some.{Among}
 use Rattle.plan_definition.specs.Well.{noLink}
 use Rattle.plan_definition.specs.declared.Rule.the-variants.{Number, Kind, LinkCount, Rate, Links, Shares, UnusedLinks, Repeat}
-use Rattle.plan_definition.specs.Rules.{used, unused, total, ruleNumber}
+use Rattle.plan_definition.specs.Rules.{used, unused, total, struck, ruleNumber}
 
 -- "well number (bytes 0-1, not zero)"
 unfoldable pub KeepsNumber : Well → Type 0
@@ -47,9 +49,9 @@ KeepsShares w =
 unfoldable pub KeepsUnusedLinks : Well → Type 0
 KeepsUnusedLinks w = (l : Link) → Among l (unused w) → (l .injector ≡ 0) × (l .share ≡ 0)
 
--- "Well numbers don't repeat", which is "the fault of the later place"
+-- "Well numbers don't repeat", which is "the fault of the later place"; a struck record makes no other a repeat
 unfoldable pub KeepsRepeat : List Well → Well → Type 0
-KeepsRepeat ws w = (v : Well) → Among v ws → v .place < w .place → v .number ≡ w .number → ⊥
+KeepsRepeat ws w = (v : Well) → Among v ws → v .place < w .place → struck v ≡ false → v .number ≡ w .number → ⊥
 
 -- a well that keeps every rule
 pub record Keeps (ws : List Well) (w : Well) : Type 0 where
@@ -62,9 +64,13 @@ pub record Keeps (ws : List Well) (w : Well) : Type 0 where
   pub unused-links : KeepsUnusedLinks w
   pub repeat : KeepsRepeat ws w
 
--- a sound sheet: every well of it does
+-- a record that makes sense: it does, or is "exempt" (Q-11)
+abbrev pub MakesSense : List Well → Well → Type 0
+MakesSense ws w = struck w ≡ false → Keeps ws w
+
+-- a sound sheet: every record of it makes sense
 unfoldable pub Sound : List Well → Type 0
-Sound ws = (w : Well) → Among w ws → Keeps ws w
+Sound ws = (w : Well) → Among w ws → MakesSense ws w
 
 -- a sentence with its rule's number
 abbrev pub Sentence : Type 1
@@ -76,8 +82,8 @@ pub data FirstFalse (k : ℕ) : List Sentence → Type 1 where
   kept : {n : ℕ} {A : Type 0} {ss : List Sentence} → A → FirstFalse k ss → FirstFalse k ((n, A) ∷ ss)
 
 -- the sentences of the rules, in the request's order
-unfoldable pub sentencesAt : List Well → Well → List Sentence
-sentencesAt ws w =
+unfoldable pub sentencesBy : List Well → Well → List Sentence
+sentencesBy ws w =
     (ruleNumber Number, KeepsNumber w)
     ∷ (ruleNumber Kind, KeepsKind w)
     ∷ (ruleNumber LinkCount, KeepsLinkCount w)
@@ -87,3 +93,7 @@ sentencesAt ws w =
     ∷ (ruleNumber UnusedLinks, KeepsUnusedLinks w)
     ∷ (ruleNumber Repeat, KeepsRepeat ws w)
     ∷ []
+
+-- and of a record, of which a struck one has none to keep
+unfoldable pub sentencesAt : List Well → Well → List Sentence
+sentencesAt ws w = pick (struck w) [] (sentencesBy ws w)

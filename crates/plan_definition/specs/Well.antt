@@ -1,7 +1,9 @@
--- The wells of a sheet: document 02, Q-1, "In each record". A record is 40 bytes; the note, bytes 24 to 39, is not read.
+-- The wells of a sheet: document 02, Q-1, "In each record". A record is 40 bytes; of the note, bytes 24 to 39, only whether it is zeros is read.
 use Prim.Native.Nat.{ℕ, suc, _+_, _*_}
+use mathlib.Core.Bool.{not}
 use mathlib.Core.List.{List, [], _∷_}
-use lib.ListN.{getD}
+use lib.ListN.{getD, drop}
+use Rattle.sheet_definition.specs.Struck.{allZero}
 use Rattle.plan_definition.specs.declared.Link.{Link}
 use Rattle.plan_definition.specs.declared.Well.{Well}
 use Rattle.sheet_definition.specs.Sheet.{cut}
@@ -31,6 +33,7 @@ wellOf place x =
       count = getD x 3 0;
       rate = four x 4;
       links = linkAt x 8 ∷ linkAt x 12 ∷ linkAt x 16 ∷ linkAt x 20 ∷ [];
+      noted = not (allZero (drop 24 x));
     }
 
 -- records as wells, the first of them at a place
@@ -38,6 +41,6 @@ unfoldable pub wellsFrom : (place : ℕ) → List (List ℕ) → List Well
 wellsFrom place [] = []
 wellsFrom place (x ∷ xs) = wellOf place x ∷ wellsFrom (suc place) xs
 
--- the wells of a sheet of n records, in the order of their places: every record is one
+-- the wells of a sheet of n records, in the order of their places: every record has its entry, a struck one too
 unfoldable pub wells : (n : ℕ) → (sheet : List ℕ) → List Well
 wells n sheet = wellsFrom 0 (cut n sheet)

@@ -17,7 +17,8 @@ pub struct Link {
     pub share: u16,
 }
 
-// A record of a sheet read as a well, with its place there; count is its link count, and of its links the first count are used.
+// A record of a sheet read as a well, with its place there; count is its link count, and of its links the first count are used. Of its note only
+// whether a byte of it is set is read, which tells a struck record.
 pub struct Well {
     pub place: usize,
     pub number: u16,
@@ -25,6 +26,7 @@ pub struct Well {
     pub count: u8,
     pub rate: u32,
     pub links: [Link; 4],
+    pub noted: bool,
 }
 
 // The rules of the request, in its order.

@@ -9,7 +9,7 @@ use Rattle.plan_definition.specs.Well.{noLink, wellOf}
 use Rattle.sheet_definition.specs.Sheet.{recordBytes}
 
 unfoldable pub noWell : (place : ℕ) → Well
-noWell place = record { place = place; number = 0; kind = 0; count = 0; rate = 0; links = replicate 4 noLink }
+noWell place = record { place = place; number = 0; kind = 0; count = 0; rate = 0; links = replicate 4 noLink; noted = false }
 
 unfoldable pub wellWhen : Bool → (place : ℕ) → List ℕ → Well
 wellWhen true place x = wellOf place x

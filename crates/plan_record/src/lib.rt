@@ -17,6 +17,8 @@ const RATE_AT: usize = 4;
 
 const LINKS_AT: usize = 8;
 
+const NOTE_AT: usize = 24;
+
 // Two bytes from byte i on, the high one first.
 fn two(t: &[u8], i: usize) -> u16
     requires { ⌜ i + 2 ≤ length (now t) ⌝ }
@@ -66,6 +68,7 @@ fn well(t: &[u8], place: usize) -> Well
             link(t, LINKS_AT + 8),
             link(t, LINKS_AT + 12),
         ],
+        noted: !sheet_struck::zeros(&t[NOTE_AT..]),
     }
 }
 
@@ -88,5 +91,6 @@ fn no_well(place: usize) -> Well
         count: 0,
         rate: 0,
         links: [no_link(); 4],
+        noted: false,
     }
 }

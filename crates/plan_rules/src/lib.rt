@@ -6,7 +6,7 @@ ghost use lib.ListN.{drop};
 ghost use lib.Seq.{slice};
 ghost use Rattle.definition.specs.Refusal.{firstOf};
 ghost use Rattle.plan_definition.specs.Some.{some};
-ghost use Rattle.plan_definition.specs.Rules.{breaksKind, breaksLinkCount, misnamed, namesSame, notZero, rulesBy};
+ghost use Rattle.plan_definition.specs.Rules.{breaksKind, breaksLinkCount, misnamed, namesSame, notZero, struck as isStruck, rulesBy};
 ghost use Rattle.plan_numbers.specs.Numbers.{has};
 ghost use Rattle.plan_rules.specs.Parts.{shapeRules, misshared};
 use plan_definition::INJECTOR;
@@ -161,6 +161,18 @@ fn unused_breaks(links: [Link; 4], count: usize) -> bool
         k += 1;
     }
     false
+}
+
+// Whether a record is struck (Q-11). That a well isn't is told by its number.
+pub fn struck(w: Well) -> bool
+    ensures { λ r. ⌜ r ≡ isStruck w ⌝ }
+{
+    if w.number != 0 {
+        return false;
+    }
+    let links = w.links;
+    let linked = unused_breaks(links, 0);
+    (w.kind == 0) & ((w.count == 0) & ((w.rate == 0) & (!linked & !w.noted)))
 }
 
 // The first rule that a well breaks, or 0, where injectors has the numbers of the sheet's injectors and seen those of the places before.

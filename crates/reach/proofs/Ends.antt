@@ -15,18 +15,20 @@ use Rattle.definition.specs.Refusal.{pick}
 use Rattle.plan_definition.specs.declared.Well.{Well}
 use Rattle.plan_definition.specs.Some.{Among}
 use Rattle.plan_definition.specs.Well.{wellOf, wells}
+use Rattle.plan_definition.specs.Rules.{struck}
 use Rattle.plan_definition.proofs.Exactly.{Passes}
+use Rattle.plan_definition.proofs.Struck.{of-kind}
 use Rattle.plan_definition.proofs.Places.{wellAt}
 use Rattle.plan_definition.proofs.Listed.{column}
 use Rattle.plan_numbers.specs.Numbers.{has, plus}
 use Rattle.plan_numbers.proofs.Numbers.{none-at, none-has}
 use Rattle.reach_definition.specs.Chain.{Joined}
 use Rattle.reach_definition.specs.Reach.{joined, marks}
-use Rattle.reach_definition.proofs.Chains.{joined-itself, joined-none}
+use Rattle.reach_definition.proofs.Chains.{end-stands, joined-itself, joined-none}
 use Rattle.reach_definition.proofs.Tests.{joined-exactly}
 use Rattle.reach_definition.proofs.One.{one-well}
 use Rattle.reach.specs.Sets.{touches, MarkedBy}
-use Rattle.reach.specs.Level.{Searched, JoinedProducer, JoinedInjector, Level, Onward}
+use Rattle.reach.specs.Level.{Searched, JoinedProducer, Level, Onward}
 use Rattle.reach.proofs.Wells.{either-kind, at-among, at-each}
 use Rattle.reach.proofs.Levels.{to-injectors, to-producers, first-turn, touches-injector, touches-other, byte-one, byte-bit}
 
@@ -95,23 +97,24 @@ module _ {sheet : List ℕ} {n : ℕ} (s : Searched sheet n) where
     same-bit x false (inl z) i p = z
     same-bit x false (inr e) i p = absurd (false≢true (p .1 (i .0 e)))
 
-    module _ {hops : ℕ} {r : List ℕ} (x : List ℕ) {f : ℕ → Bool} (l : Level (wells n sheet) from hops r f) (b : MarkedBy f 2 (wells n sheet) r x) where
+    module _ (well : struck from ≡ false) {hops : ℕ} {r : List ℕ} (x : List ℕ) {f : ℕ → Bool} (l : Level (wells n sheet) from hops r f) (b : MarkedBy f 2 (wells n sheet) r x) where
       -- with the injectors of the set marked, each record that is joined is
       last-mark : (w : Well) → Among w (wells n sheet) → (getD x (w .place) 0 ≡ 1) ↔ Joined (wells n sheet) hops from w
-      last-mark w m = Iff·trans (byte-one f 2 r x b m) (by (either-kind (s .sound) m))
+      last-mark w m =
+          Iff·trans (byte-one f 2 r x b m) (⊎-elim there (λ o. l .producers w m .0 o .1), λ j. back j (either-kind (s .sound) m (end-stands well (j .chain))))
         where
-          by : (w .kind ≡ 1) ⊎ (w .kind ≡ 2) → ((touches f 2 w ≡ true) ⊎ (getD r (w .place) 0 ≡ 1)) ↔ Joined (wells n sheet) hops from w
-          by (inl e) = (
-            ⊎-elim (λ t. absurd (false≢true (sym (touches-other f w 2 (λ d. omega (arith, d, e))) ∙ t))) (λ o. l .producers w m .0 o .1),
-            λ j. inr (l .producers w m .1 (e, j)),
-          )
-          by (inr e) = (
-            ⊎-elim (λ t. taken (l .injectors (w .number) .0 (sym (touches-injector f w e) ∙ t))) (λ o. l .producers w m .0 o .1),
-            λ j. inl (touches-injector f w e ∙ l .injectors (w .number) .1 (w, m, refl, e, j)),
-          )
-            where
-              taken : JoinedInjector (wells n sheet) hops from (w .number) → Joined (wells n sheet) hops from w
-              taken p = rw (one-well n sheet (s .sound) (p .0) w (p .1) m (p .2)) at (p .4)
+          there : touches f 2 w ≡ true → Joined (wells n sheet) hops from w
+          there t =
+              elim (ℕ-discrete (w .kind) 2) [
+                | yes e ↦
+                    let p = l .injectors (w .number) .0 (sym (touches-injector f w e) ∙ t) in
+                    rw (one-well n sheet (s .sound) (p .0) w (p .1) m (of-kind w (λ z. omega arith)) (p .2)) at (p .4)
+                | no e ↦ absurd (false≢true (sym (touches-other f w 2 e) ∙ t))
+              ]
+
+          back : Joined (wells n sheet) hops from w → (w .kind ≡ 1) ⊎ (w .kind ≡ 2) → (touches f 2 w ≡ true) ⊎ (getD r (w .place) 0 ≡ 1)
+          back j (inl e) = inr (l .producers w m .1 (e, j))
+          back j (inr e) = inl (touches-injector f w e ∙ l .injectors (w .number) .1 (w, m, refl, e, j))
 
       -- so the bytes are the marks
       pub all-marks : length x ≡ n → x ≡ marks (wells n sheet) (from .number) hops
@@ -123,4 +126,4 @@ module _ {sheet : List ℕ} {n : ℕ} (s : Searched sheet n) where
               let w = wellAt q sheet in
               let m = at-among s g in
               same-bit (getD x q 0) (joined (wells n sheet) (from .number) hops w) (byte-bit f 2 r x b m (l .bits w m)) (last-mark w m)
-              (joined-exactly (wells n sheet) (from .number) from (at-among s h) refl (λ v a. one-well n sheet (s .sound) v from a (at-among s h)) hops w m)
+              (joined-exactly (wells n sheet) (from .number) from (at-among s h) well refl (λ v a. one-well n sheet (s .sound) v from a (at-among s h) well) hops w m)

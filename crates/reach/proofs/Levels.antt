@@ -6,6 +6,7 @@ use mathlib.Core.Logic.{_↔_, Iff·trans, _⊎_, inl, inr, ⊎-elim}
 use mathlib.Core.Bool.{Bool, true, false, false≢true}
 use mathlib.Core.List.{List}
 use Prim.Native.Nat.{ℕ, suc}
+use native.Mathlib.Decide.{ℕ-discrete}
 use native.Mathlib.Omega.{arith}
 use borrow.Author.Tests.{eq-eqb, ne-eqb}
 use lib.ListN.{getD}
@@ -15,6 +16,7 @@ use Rattle.plan_definition.specs.declared.Well.{Well}
 use Rattle.plan_definition.specs.Some.{Among}
 use Rattle.plan_definition.specs.Rules.{injector, used}
 use Rattle.plan_definition.specs.Sound.{KeepsLinks, NamesInjector, Sound}
+use Rattle.plan_definition.proofs.Struck.{of-link}
 use Rattle.plan_definition.proofs.Exactly.{Passes, equal, either, both, one-passes}
 use Rattle.reach_definition.specs.Chain.{LinksTo, Reaches, Joined}
 use Rattle.reach_definition.specs.Chain.Reaches.{links, linked}
@@ -22,7 +24,6 @@ use Rattle.reach_definition.specs.Reach.{names}
 use Rattle.reach_definition.proofs.Chains.{from-injector, from-producer, joined-more, joined-none, one-more, last-hop, joined-among}
 use Rattle.reach.specs.Sets.{takes, touches, linkedFrom, plusLinked, MarkedBy}
 use Rattle.reach.specs.Level.{JoinedProducer, JoinedInjector, Level, Settled}
-use Rattle.reach.proofs.Wells.{either-kind}
 
 -- kinds in turn: wells of the second are reached by wells of the first alone
 abbrev pub Turns : (first second : ℕ) → Type 0
@@ -110,7 +111,7 @@ module _ {ws : List Well} {from : Well} {h : ℕ} {r : List ℕ} {f : ℕ → Bo
             ⊎-elim (λ p.
                 let j = l .producers (p .0) (p .1) .0 (p .2 .0) in
                 let a = p .2 .1 in
-                let v = keeps (p .0) (p .1) .links .0 (a .0) (a .1) in
+                let v = keeps (p .0) (p .1) (of-link (p .0) (a .1)) .links .0 (a .0) (a .1) in
                 (v .0, v .1, v .2 ∙ a .2, v .3, one-more (j .1) (links (j .0, v .3, (a .0, a .1, sym (v .2)))) (v .1)))
                 (λ t. let p = l .injectors k .0 t in (p .0, p .1, p .2, p .3, joined-more (omega arith) (p .4))),
             λ p. ⊎-elim (λ j. inr (l .injectors k .1 (p .0, p .1, p .2, p .3, j))) (λ u.
@@ -127,19 +128,22 @@ module _ {ws : List Well} {from : Well} {h : ℕ} {r : List ℕ} {f : ℕ → Bo
       producers : (w : Well) → Among w ws → (getD s (w .place) 0 ≡ 1) ↔ JoinedProducer ws (suc h) from w
       producers w n =
           Iff·trans (byte-one f 1 r s b n) (
-            ⊎-elim (by (either-kind keeps n)) still,
+            ⊎-elim by still,
             λ p. ⊎-elim (λ j. inr (l .producers w n .1 (p .0, j))) (λ u. inl (here (p .0) (u .0) (u .1) (u .2))) (last-hop (p .1)),
           )
         where
           still : getD r (w .place) 0 ≡ 1 → JoinedProducer ws (suc h) from w
           still e = let p = l .producers w n .0 e in (p .0, joined-more (omega arith) (p .1))
 
-          by : (w .kind ≡ 1) ⊎ (w .kind ≡ 2) → touches f 1 w ≡ true → JoinedProducer ws (suc h) from w
-          by (inl e) t =
-              let p = touches-producer f w e .0 t in
-              let v = l .injectors (p .0 .injector) .0 (p .2) in
-              (e, one-more (v .4) (linked (e, v .3, (p .0, p .1, sym (v .2)))) n)
-          by (inr e) t = absurd (false≢true (sym (touches-other f w 1 (λ d. omega (arith, d, e))) ∙ t))
+          by : touches f 1 w ≡ true → JoinedProducer ws (suc h) from w
+          by t =
+              elim (ℕ-discrete (w .kind) 1) [
+                | yes e ↦
+                    let p = touches-producer f w e .0 t in
+                    let v = l .injectors (p .0 .injector) .0 (p .2) in
+                    (e, one-more (v .4) (linked (e, v .3, (p .0, p .1, sym (v .2)))) n)
+                | no e ↦ absurd (false≢true (sym (touches-other f w 1 e) ∙ t))
+              ]
 
           here : w .kind ≡ 1 → (v : Well) → Joined ws h from v → Reaches v w → touches f 1 w ≡ true
           here e v j q =

@@ -9,7 +9,7 @@ use Rattle.sheet_definition.specs.Refusals.{sheetRefusal}
 use Rattle.plan_definition.specs.Some.{some}
 use Rattle.plan_definition.specs.Well.{wells}
 use Rattle.plan_definition.specs.Check.{sound}
-use Rattle.reach_definition.specs.Reach.{hasNumber}
+use Rattle.plan_definition.specs.Rules.{hasNumber}
 
 abbrev pub frontRefusals : (sheet : List ℕ) → (n hops : ℕ) → List Refusal
 frontRefusals sheet n hops = sheetRefusal n (length sheet) ∷ (HOPS, ltb 3 hops) ∷ (UNSOUND, not (sound (wells n sheet))) ∷ []

@@ -2,18 +2,18 @@
 use Prim.Native.Nat.{ℕ, suc, _+_, _*_, _<_, _≤_}
 use mathlib.Core.Path.{_≡_}
 use mathlib.Core.Logic.{_↔_, _⊎_}
-use mathlib.Core.Bool.{Bool, true}
+use mathlib.Core.Bool.{Bool, true, false}
 use mathlib.Core.List.{List}
 use lib.Dec.{ltb}
 use lib.ListN.{length, getD}
 use Rattle.plan_definition.specs.declared.Well.{Well}
 use Rattle.plan_definition.specs.Some.{some, Among}
 use Rattle.plan_definition.specs.Well.{wells}
+use Rattle.plan_definition.specs.Rules.{struck, hasNumber}
 use Rattle.plan_definition.specs.Sound.{Sound}
 use Rattle.plan_record.specs.Total.{wellIn}
 use Rattle.plan_numbers.specs.Numbers.{has}
 use Rattle.reach_definition.specs.Chain.{Joined}
-use Rattle.reach_definition.specs.Reach.{hasNumber}
 
 -- a sheet that is searched: it has its n records, and they make sense
 pub record Searched (sheet : List ℕ) (n : ℕ) : Type 0 where
@@ -24,6 +24,7 @@ pub record Searched (sheet : List ℕ) (n : ℕ) : Type 0 where
 pub record FoundAt (sheet : List ℕ) (n number place : ℕ) : Type 0 where
   pub within : place ≤ n
   pub there : ltb place n ≡ some (hasNumber number) (wells n sheet)
+  pub stands-there : place < n → struck (wellIn sheet place) ≡ false
   pub number-there : place < n → wellIn sheet place .number ≡ number
 
 -- a producer that so many hops join to a well, and that an injector of a number is

@@ -2,12 +2,14 @@
 // over the sheet. Producers that are reached have their byte, injectors their number in a set of 8 KiB until the search is over: a link says a
 // number, so nobody looks for the place of one.
 ghost use mathlib.Core.Path.{_≡_};
+ghost use mathlib.Core.Bool.{false};
 ghost use Prim.Native.Nat.{_<_, _≤_};
 ghost use lib.ListN.{length, replicate};
 ghost use lib.Seq.{slice};
 ghost use Rattle.definition.specs.Refusal.{firstOf};
 ghost use Rattle.plan_definition.specs.Some.{some};
 ghost use Rattle.plan_definition.specs.Well.{wells};
+ghost use Rattle.plan_definition.specs.Rules.{struck};
 ghost use Rattle.plan_record.specs.Total.{wellIn};
 ghost use Rattle.plan_numbers.specs.Numbers.{has};
 ghost use Rattle.reach_definition.specs.Reach.{marks, reachOutcome};
@@ -21,11 +23,14 @@ use plan_definition::Well;
 use reach_definition::HOPS_MOST;
 use refusals::DONE;
 
-// The place of the well that has a number, or n where none has. The number is judged whole.
+// The place of the well that has a number, or n where none has: no well has 0, and a struck record is none. The number is judged whole.
 fn find(sheet: &[u8], n: usize, well: usize) -> usize
     requires { ⌜ Searched (now sheet) n ⌝ }
     ensures { λ r. ⌜ FoundAt (now (sheet .entry)) n well r ⌝ }
 {
+    if well == 0 {
+        return n;
+    }
     let mut i = 0;
     while i < n {
         let w = plan_record::read(sheet, i);
@@ -150,7 +155,7 @@ fn clear(reached: &mut [u8])
 
 // The marks of a sound sheet's records from the well at a place, in a buffer that has a byte for each.
 fn search(sheet: &[u8], n: usize, place: usize, hops: usize, reached: &mut [u8])
-    requires { ⌜ Searched (now sheet) n × (place < n) × (length (now reached) ≡ n) ⌝ }
+    requires { ⌜ Searched (now sheet) n × (place < n) × (length (now reached) ≡ n) × (struck (wellIn (now sheet) place) ≡ false) ⌝ }
     ensures { λ _. ⌜ now (reached .exit) ≡ marks (wells n (now (sheet .entry))) (wellIn (now (sheet .entry)) place .number) hops ⌝ }
 {
     clear(reached);

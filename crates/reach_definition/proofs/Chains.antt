@@ -2,11 +2,14 @@
 -- Assumes nothing.
 use mathlib.Core.Path.{_≡_, refl}
 use mathlib.Core.Logic.{_⊎_, inl, inr}
+use mathlib.Core.Bool.{false}
 use mathlib.Core.List.{List}
 use Prim.Native.Nat.{ℕ, zero, suc, _≤_}
 use native.Mathlib.Omega.{arith}
 use Rattle.plan_definition.specs.declared.Well.{Well}
 use Rattle.plan_definition.specs.Some.{Among}
+use Rattle.plan_definition.specs.Rules.{struck}
+use Rattle.plan_definition.proofs.Struck.{of-kind}
 use Rattle.reach_definition.specs.Chain.{LinksTo, Reaches, Chain, Joined}
 use Rattle.reach_definition.specs.Chain.Reaches.{links, linked}
 use Rattle.reach_definition.specs.Chain.Chain.{itself, on}
@@ -26,7 +29,17 @@ unfolding LinksTo
 from-producer e (links l) = l
 from-producer e (linked l) = absurd (omega (arith, e, l .0))
 
+-- neither is struck
+reached-stands : {v w : Well} → Reaches v w → struck w ≡ false
+unfolding LinksTo
+reached-stands {w = w} (links l) = of-kind w (λ z. omega (arith, l .1))
+reached-stands {w = w} (linked l) = of-kind w (λ z. omega (arith, l .0))
+
 module _ {ws : List Well} where
+  pub end-stands : {from w : Well} {k : ℕ} → struck from ≡ false → Chain ws from k w → struck w ≡ false
+  end-stands s itself = s
+  end-stands s (on c r n) = reached-stands r
+
   end-among : {from w : Well} {k : ℕ} → Among from ws → Chain ws from k w → Among w ws
   end-among m itself = m
   end-among m (on c r n) = n

@@ -12,12 +12,13 @@ use Rattle.definition.specs.Refusal.{pick}
 use Rattle.plan_definition.specs.declared.Well.{Well}
 use Rattle.plan_definition.specs.Some.{Among}
 use Rattle.plan_definition.specs.Well.{wells}
+use Rattle.plan_definition.specs.Rules.{struck}
 use Rattle.plan_definition.specs.Sound.{Sound}
 use Rattle.plan_definition.proofs.Places.{wellAt, wells-at}
 use Rattle.plan_definition.proofs.Listed.{each-at, number-fits}
 use Rattle.reach_definition.specs.Chain.{Joined}
 use Rattle.reach_definition.specs.Reach.{joined, marks, reachOutcome}
-use Rattle.reach_definition.proofs.Chains.{joined-back, joined-more}
+use Rattle.reach_definition.proofs.Chains.{end-stands, joined-back, joined-more}
 use Rattle.reach_definition.proofs.Tests.{joined-exactly}
 use Rattle.reach_definition.proofs.One.{one-well}
 use Rattle.reach_definition.proofs.Outcomes.{length-marks, given, done}
@@ -45,6 +46,7 @@ byteAfter sheet n k hops reached i = getD (reachOutcome sheet n k hops reached .
 pub record Named (sheet : List ℕ) (n number : ℕ) : Type 0 where
   pub well : Well
   pub in-sheet : Among well (wells n sheet)
+  pub stands : struck well ≡ false
   pub its-number : well .number ≡ number
 
 module _ (sheet : List ℕ) (n k hops : ℕ) (reached : List ℕ) (e : given sheet n k hops reached ≡ 0) where
@@ -55,11 +57,11 @@ module _ (sheet : List ℕ) (n k hops : ℕ) (reached : List ℕ) (e : given she
   pub named-well : Named sheet n k
   named-well =
       let s = none-refused sheet n k hops (length reached) .0 e .1 .1 .1 .0 in
-      record { well = s .0; in-sheet = s .1; its-number = s .2 }
+      record { well = s .0; in-sheet = s .1; stands = s .2 .0; its-number = s .2 .1 }
 
   -- and no other
   pub no-other : (a b : Named sheet n k) → a .well ≡ b .well
-  no-other a b = one-well n sheet keeps (a .well) (b .well) (a .in-sheet) (b .in-sheet) (a .its-number ∙ sym (b .its-number))
+  no-other a b = one-well n sheet keeps (a .well) (b .well) (a .in-sheet) (b .in-sheet) (b .stands) (a .its-number ∙ sym (b .its-number))
 
   module _ (i : ℕ) (h : i < n) where
     byte-at : byteAfter sheet n k hops reached i ≡ pick (joined (wells n sheet) k hops (wellAt i sheet)) 1 0
@@ -74,9 +76,9 @@ module _ (sheet : List ℕ) (n k hops : ℕ) (reached : List ℕ) (e : given she
     marked-exactly from =
         let ws = wells n sheet in
         let only : (w : Well) → Among w ws → w .number ≡ k → w ≡ from .well =
-        λ w m f. one-well n sheet keeps w (from .well) m (from .in-sheet) (f ∙ sym (from .its-number)) in
+        λ w m f. one-well n sheet keeps w (from .well) m (from .in-sheet) (from .stands) (f ∙ sym (from .its-number)) in
         Iff·trans (rw byte-at (one-or-zero _))
-        (joined-exactly ws k (from .well) (from .in-sheet) (from .its-number) only hops (wellAt i sheet) (wells-at n sheet (wellAt i sheet) .1 (i, h, refl)))
+        (joined-exactly ws k (from .well) (from .in-sheet) (from .stands) (from .its-number) only hops (wellAt i sheet) (wells-at n sheet (wellAt i sheet) .1 (i, h, refl)))
 
     -- "1 or 0"
     pub unmarked-exactly : (byteAfter sheet n k hops reached i ≡ 0) ↔ (byteAfter sheet n k hops reached i ≡ 1 → ⊥)
@@ -105,12 +107,13 @@ pub both-ways : (sheet : List ℕ) (n hops : ℕ) (reached : List ℕ) (i j : �
 both-ways sheet n hops reached i j h l e d =
     let a = wellAt i sheet in
     let b = wellAt j sheet in
-    let from : Named sheet n (a .number) = record { well = a; in-sheet = wells-at n sheet a .1 (i, h, refl); its-number = refl } in
-    let to : Named sheet n (b .number) = record { well = b; in-sheet = wells-at n sheet b .1 (j, l, refl); its-number = refl } in
     let s = none-refused sheet n (a .number) hops (length reached) .0 e in
+    let from = named-well sheet n (a .number) hops reached e in
+    let itself : a ≡ from .well =
+    one-well n sheet (s .1 .1 .0) a (from .well) (wells-at n sheet a .1 (i, h, refl)) (from .in-sheet) (from .stands) (sym (from .its-number)) in
+    let chain = marked-exactly sheet n (a .number) hops reached e j l from .0 d in
+    let to : Named sheet n (b .number) =
+    record { well = b; in-sheet = wells-at n sheet b .1 (j, l, refl); stands = end-stands (from .stands) (chain .chain); its-number = refl } in
     let accepted : given sheet n (b .number) hops reached ≡ 0 =
-    none-refused sheet n (b .number) hops (length reached) .1 (s .0, (s .1 .0, (s .1 .1 .0, ((b, to .in-sheet, refl), s .1 .1 .1 .1)))) in (
-      accepted,
-      marked-exactly sheet n (b .number) hops reached accepted i h to .1
-          (joined-back (from .in-sheet) (marked-exactly sheet n (a .number) hops reached e j l from .0 d)),
-    )
+    none-refused sheet n (b .number) hops (length reached) .1 (s .0, (s .1 .0, (s .1 .1 .0, ((b, to .in-sheet, (to .stands, refl)), s .1 .1 .1 .1)))) in
+    (accepted, marked-exactly sheet n (b .number) hops reached accepted i h to .1 (rw itself (joined-back (from .in-sheet) chain)))

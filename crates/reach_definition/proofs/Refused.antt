@@ -3,7 +3,7 @@
 -- Assumes nothing.
 use mathlib.Core.Path.{_≡_}
 use mathlib.Core.Logic.{_↔_, Iff·trans}
-use mathlib.Core.Bool.{not, _||_}
+use mathlib.Core.Bool.{false, not, _||_}
 use mathlib.Core.List.{List}
 use Prim.Native.Nat.{ℕ, suc, _*_, _<_, _≤_}
 use native.Mathlib.Omega.{arith}
@@ -16,20 +16,31 @@ use Rattle.sheet_definition.specs.Refusals.{sheetRefusal}
 use Rattle.plan_definition.specs.declared.Well.{Well}
 use Rattle.plan_definition.specs.Some.{some, Among}
 use Rattle.plan_definition.specs.Well.{wells}
-use Rattle.plan_definition.specs.Sound.{Sound}
+use Rattle.plan_definition.specs.Rules.{struck, hasNumber}
+use Rattle.plan_definition.specs.Sound.{KeepsNumber, Sound}
 use Rattle.plan_definition.specs.Check.{sound}
-use Rattle.plan_definition.proofs.Exactly.{Fails, less, not-less, equal, not-equal, not-passes, not-fails, either, neither, one-passes, none-passes}
+use Rattle.plan_definition.proofs.Exactly.{Fails, less, not-less, equal, not-equal, not-passes, not-fails, either, neither, both, where-first, one-passes, none-passes}
+use Rattle.plan_definition.proofs.Kept.{stands}
 use Rattle.plan_definition.proofs.Given.{its-own, another, none-holds, last-fails}
 use Rattle.plan_definition.proofs.Verdicts.{Room, NoRoom}
 use Rattle.plan_definition.proofs.Tested.{sound-tested}
-use Rattle.reach_definition.specs.Reach.{hasNumber, reachRefusals}
+use Rattle.reach_definition.specs.Reach.{reachRefusals}
 
--- "number absent", or some record has it
+-- "number absent", or some well has it
 abbrev pub Absent : List Well → (number : ℕ) → Type 0
-Absent ws k = (w : Well) → Among w ws → w .number ≡ k → ⊥
+Absent ws k = (w : Well) → Among w ws → struck w ≡ false → w .number ≡ k → ⊥
 
 abbrev pub There : List Well → (number : ℕ) → Type 0
-There ws k = (w : Well) × Among w ws × (w .number ≡ k)
+There ws k = (w : Well) × Among w ws × ((struck w ≡ false) × (w .number ≡ k))
+
+pub none-named : (ws : List Well) (k : ℕ) → Fails (some (hasNumber k) ws) (Absent ws k)
+unfolding hasNumber
+none-named ws k = none-passes ws (λ w. where-first (stands w) (not-equal (w .number) k))
+
+-- "number 0 stays absent", whatever struck records a sound sheet has
+pub none-zero : (ws : List Well) → Sound ws → Absent ws 0
+unfolding Sound KeepsNumber
+none-zero ws keeps w m s = keeps w m s .number
 
 module _ (sheet : List ℕ) (n k hops reached : ℕ) where
   abbrev ws : List Well
@@ -46,7 +57,7 @@ module _ (sheet : List ℕ) (n k hops reached : ℕ) where
 
   there : Fails (not (some (hasNumber k) ws)) (There ws k)
   unfolding hasNumber
-  there = not-fails (one-passes ws (λ w. equal (w .number) k))
+  there = not-fails (one-passes ws (λ w. both (stands w) (equal (w .number) k)))
 
   -- the number that is given by lengths
   abbrev number : ℕ
@@ -72,10 +83,10 @@ module _ (sheet : List ℕ) (n k hops reached : ℕ) where
       (other-way (not (sound ws)) makes-sense))))
 
   pub absent : (number ≡ 21) ↔ (Room n (length sheet) × ((hops ≤ 3) × (Sound ws × Absent ws k)))
-  unfolding reachRefusals sheetRefusal hasNumber
+  unfolding reachRefusals sheetRefusal
   absent =
       is-first 20 (another (omega arith) room (another (omega arith) near (another (omega arith) makes-sense
-      (its-own (omega arith) (not-passes (none-passes ws (λ w. not-equal (w .number) k)))))))
+      (its-own (omega arith) (not-passes (none-named ws k))))))
 
   pub short : (number ≡ 22) ↔ (Room n (length sheet) × ((hops ≤ 3) × (Sound ws × (There ws k × (reached < n)))))
   unfolding reachRefusals sheetRefusal

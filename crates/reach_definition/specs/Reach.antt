@@ -10,7 +10,7 @@ use Rattle.plan_definition.specs.declared.Link.{Link}
 use Rattle.plan_definition.specs.declared.Well.{Well}
 use Rattle.plan_definition.specs.Some.{some}
 use Rattle.plan_definition.specs.Well.{wells}
-use Rattle.plan_definition.specs.Rules.{producer, injector, used}
+use Rattle.plan_definition.specs.Rules.{producer, injector, used, hasNumber}
 use Rattle.plan_definition.specs.Check.{sound}
 
 -- "A producer reaches the injectors it links; an injector reaches the producers that link it."
@@ -23,11 +23,7 @@ linksTo p i = producer p && (injector i && some (names (i .number)) (used p))
 unfoldable pub reaches : Well → Well → Bool
 reaches v w = linksTo v w || linksTo w v
 
--- "a named well"
-unfoldable pub hasNumber : (number : ℕ) → Well → Bool
-hasNumber k w = eqb (w .number) k
-
--- "a chain of at most that many links joins it, the well itself at 0": joined with a hop fewer, or reached by a record that is
+-- "a chain of at most that many links joins it, the well itself at 0", from "a named well": joined with a hop fewer, or reached by a record that is
 unfoldable pub joined : List Well → (number hops : ℕ) → Well → Bool
 joined ws k zero w = hasNumber k w
 joined ws k (suc h) w = joined ws k h w || some (λ v. joined ws k h v && reaches v w) ws

@@ -78,7 +78,7 @@ search-requires : tie.Need-search-requires
 search-requires c κs =
     let e = c .before in
     let f = e .before .before .before .before in
-    (may-search (f .before), there e, length-take-le _ _ (room e))
+    (may-search (f .before), there e, length-take-le _ _ (room e), f .find .ensures .stands-there (there e))
 
 returns-3 : tie.Need-returns-3
 returns-3 c =

@@ -1,6 +1,7 @@
 -- `reach::search` meets its contract: from the well itself so many hops, and then the marks of the injectors.
 -- Assumes nothing.
 use mathlib.Core.Path.{_≡_, sym, ap, _∙_}
+use mathlib.Core.Bool.{false}
 use mathlib.Core.Logic._⊎_.{inl, inr}
 use mathlib.Core.Logic.{_⊎_}
 use Prim.Native.Nat.{ℕ}
@@ -10,6 +11,7 @@ use denote.Ref.{now}
 use lib.ListN.{length, replicate, length-set}
 use Rattle.plan_definition.specs.declared.Well.{Well}
 use Rattle.plan_definition.specs.Well.{wells}
+use Rattle.plan_definition.specs.Rules.{struck}
 use Rattle.plan_definition.proofs.Places.{wellAt}
 use Rattle.plan_numbers.specs.Numbers.{has}
 use Rattle.reach.specs.Level.{Level}
@@ -36,6 +38,10 @@ the-well : (c : tie.After-struct-known) → let a = start (cleared c) .args in
     c .before .read .result ≡ wellAt (a .place) (now (a .sheet))
 the-well c = let s = start (cleared c) in read-at (s .pre .0) {i = s .args .place} (s .pre .1) (c .before .read .ensures)
 
+-- which isn't struck
+stands : (s : tie.Start) → struck (wellAt (s .args .place) (now (s .args .sheet))) ≡ false
+stands s = rw (reads (s .pre .0) {i = s .args .place} (s .pre .1)) at (s .pre .3)
+
 from-producers-requires : tie.Need-from-producers-requires
 from-producers-requires c κs =
     let z = cleared (c .before .before .before) in
@@ -58,7 +64,7 @@ level c =
       | inl t ↦ rw (t .6, t .7)
           (producer-search (s .pre .0) (a .place) (s .pre .1) (sym kind ∙ t .0 .taken) (z .clear .last .0) (zeros z) (a .hops) _ _ (t .3 .ensures))
       | inr t ↦ rw (t .8, t .9)
-          (injector-search (s .pre .0) (a .place) (s .pre .1) (other (either-kind (s .pre .0 .sound) (at-among (s .pre .0) (s .pre .1))) (λ e. t .0 .left (kind ∙ e)))
+          (injector-search (s .pre .0) (a .place) (s .pre .1) (other (either-kind (s .pre .0 .sound) (at-among (s .pre .0) (s .pre .1)) (stands s)) (λ e. t .0 .left (kind ∙ e)))
           (z .clear .last .0) (zeros z) _ (rw (the-well (c .before)) at (t .2 .ensures)) (a .hops) _ _ (t .5 .ensures))
     ]
   where
@@ -89,7 +95,7 @@ returns c =
     let j = m .before .before .before in
     let s = start (cleared (j .before)) in
     let a = s .args in
-    rw (reads (s .pre .0) {i = a .place} (s .pre .1)) (all-marks (s .pre .0) (a .place) (s .pre .1) _ (level j) (m .mark .ensures) (marked-long m))
+    rw (reads (s .pre .0) {i = a .place} (s .pre .1)) (all-marks (s .pre .0) (a .place) (s .pre .1) (stands s) _ (level j) (m .mark .ensures) (marked-long m))
 
 same-length : tie.Need-same-length
 same-length c =
