@@ -3,7 +3,7 @@
 use Prim.Native.Nat.{ℕ, _/_, _%_}
 use mathlib.Core.Path.{_≡_}
 use mathlib.Core.List.{List, [], _∷_, _++_}
-use lib.ListN.{length, take, replicate}
+use lib.ListN.{length, take, set, replicate}
 use Rattle.definition.specs.Refusal.{SHEET}
 use Rattle.definition.specs.Buffer.{joined}
 use Rattle.plan_definition.specs.declared.Rule.the-variants.{Number, Kind, LinkCount, Rate, Links, Shares, UnusedLinks, Repeat}
@@ -36,9 +36,12 @@ inj number = well number 2 0 50 []
 abbrev pub prod : (number : ℕ) → (links : List (ℕ × ℕ)) → List ℕ
 prod number links = well number 1 (length links) 100 links
 
--- a struck record
+-- a struck record, and one that lacks it by a byte
 abbrev pub gone : List ℕ
 gone = replicate 40 0
+
+abbrev pub all-but : (byte : ℕ) → List ℕ
+all-but i = set gone i 1
 
 -- the verdict on records, and on one at place 0 before injectors 2 to 5
 abbrev pub check : List (List ℕ) → Verdict
@@ -92,6 +95,23 @@ pub record Table : Type 0 where
   pub unused-links-before-repeat : check (inj 2 ∷ well 2 2 0 50 ((0, 1) ∷ []) ∷ []) ≡ Fault UnusedLinks 1
   -- two faulty places: the lower of them, even if its rule ranks later
   pub lower-place : check (inj 2 ∷ inj 2 ∷ inj 0 ∷ []) ≡ Fault Repeat 1
+  -- struck records are no wells: they break nothing, repeat nothing and are linked by nobody
+  pub two-struck : check (gone ∷ gone ∷ []) ≡ Sound
+  pub all-struck : check (replicate 9 gone) ≡ Sound
+  pub struck-first-and-last : check (gone ∷ prod 1 ((2, 1000) ∷ []) ∷ inj 2 ∷ gone ∷ []) ≡ Sound
+  pub struck-between : check (prod 1 ((2, 1000) ∷ []) ∷ gone ∷ gone ∷ inj 2 ∷ []) ≡ Sound
+  pub struck-beside-repeat : check (inj 2 ∷ gone ∷ gone ∷ inj 2 ∷ []) ≡ Fault Repeat 3
+  pub struck-before-number-0 : check (gone ∷ inj 0 ∷ []) ≡ Fault Number 1
+  pub link-to-struck : check (prod 1 ((0, 1000) ∷ []) ∷ gone ∷ []) ≡ Fault Links 0
+  -- one byte makes a record that isn't struck: its kind, count, rate, a link or its note
+  pub low-number-byte : check (all-but 1 ∷ []) ≡ Fault Kind 0
+  pub kind-byte : check (gone ∷ all-but 2 ∷ []) ≡ Fault Number 1
+  pub count-byte : check (all-but 3 ∷ []) ≡ Fault Number 0
+  pub rate-byte : check (all-but 7 ∷ []) ≡ Fault Number 0
+  pub first-link-byte : check (all-but 8 ∷ []) ≡ Fault Number 0
+  pub last-link-byte : check (all-but 23 ∷ []) ≡ Fault Number 0
+  pub first-note-byte : check (all-but 24 ∷ []) ≡ Fault Number 0
+  pub last-note-byte : check (gone ∷ all-but 39 ∷ []) ≡ Fault Number 1
   -- a record past n is none of the sheet
   pub injector-past-n : verdict (joined (prod 1 ((2, 1000) ∷ []) ∷ inj 2 ∷ [])) 1 ≡ Fault Links 0
   pub n-1025 : (sheet : List ℕ) → verdict sheet 1025 ≡ Refused SHEET

@@ -1,4 +1,5 @@
--- The hypotheses of the check's laws can be met: a sound sheet, a faulted one, and two sheets that differ where it isn't read.
+-- The hypotheses of the check's laws can be met: a sound sheet, a faulted one, two sheets that differ where it isn't read, and a struck record beside
+-- one that isn't.
 -- Assumes nothing.
 use mathlib.Core.Path.{_≡_, refl, sym, ap, _∙_}
 use mathlib.Core.Bool.{Bool}
@@ -8,17 +9,23 @@ use native.Mathlib.Omega.{arith}
 use lib.Dec.{eqb, eqb→eq}
 use lib.ListN.{length, getD, take, drop, replicate}
 use Rattle.definition.specs.Buffer.{joined}
+use Rattle.definition.specs.Refusal.{firstOf}
 use Rattle.sheet_definition.specs.Struck.{allZero}
 use Rattle.definition.proofs.Cases.{everyBelow, at-below}
-use Rattle.plan_definition.specs.declared.Rule.the-variants.{Repeat}
-use Rattle.plan_definition.specs.declared.Verdict.the-variants.{Sound}
+use Rattle.plan_definition.specs.declared.Rule.{Rule}
+use Rattle.plan_definition.specs.declared.Rule.the-variants.{Number, Repeat}
+use Rattle.plan_definition.specs.declared.Verdict.the-variants.{Sound, Fault}
 use Rattle.plan_definition.specs.Well.{wells}
+use Rattle.plan_definition.specs.Rules.{ruleNumber, rulesAt}
 use Rattle.plan_definition.specs.Sound.{Sound as SoundSheet}
 use Rattle.plan_definition.specs.Check.{verdict}
 use Rattle.plan_definition.proofs.Faults.{FirstFault}
-use Rattle.plan_definition.proofs.Verdicts.{sound-exactly, fault-exactly}
+use Rattle.plan_definition.proofs.Struck.{number-0}
+use Rattle.plan_definition.proofs.Places.{wellAt}
+use Rattle.plan_definition.proofs.Verdicts.{sound-exactly, fault-exactly, struck-exempt}
 use Rattle.plan_definition.proofs.Elsewhere.{elsewhere}
-use Rattle.plan_definition.proofs.Examples.{prod, inj, content-examples}
+use Rattle.plan_definition.proofs.Computed.{everything}
+use Rattle.plan_definition.proofs.Examples.{prod, inj, gone, all-but, content-examples}
 
 -- a producer and its injector make a sound sheet: sound-exactly
 abbrev pub plan : List ℕ
@@ -56,3 +63,15 @@ noted-sound =
 
     read : ℕ → ℕ → Bool
     read p j = eqb (getD plan (40 * p + j) 0) (getD noted (40 * p + j) 0)
+
+-- a struck record, and after it one that lacks it by the last byte of its note: struck-exempt, number-0
+abbrev pub nearly : List ℕ
+nearly = joined (gone ∷ all-but 39 ∷ [])
+
+pub not-struck-place : (rule : Rule) → verdict nearly 2 ≡ Fault rule 0 → ⊥
+unfolding joined allZero
+not-struck-place rule = struck-exempt nearly 2 rule 0 refl
+
+pub its-number-broken : firstOf (rulesAt (wells 2 nearly) (wellAt 1 nearly)) ≡ ruleNumber Number
+unfolding everything joined
+its-number-broken = number-0 (wells 2 nearly) (wellAt 1 nearly) refl refl

@@ -8,15 +8,16 @@ use Prim.Native.Nat.{ℕ, zero, suc, _+_, _*_, _<_}
 use native.Mathlib.Omega.{arith}
 use lib.Dec.{eqb}
 use lib.ListN.{getD, drop, drop-of-length-le}
-use borrow.Author.Tests.{ne-eqb}
-use Rattle.definition.specs.Refusal.{pick}
+use borrow.Author.Tests.{eq-eqb, ne-eqb}
+use Rattle.definition.specs.Refusal.{pick, firstOf}
 use Rattle.definition.proofs.Cases.{everyBelow}
 use Rattle.sheet_definition.specs.Struck.{allZero}
 use Rattle.plan_definition.specs.declared.Link.{Link}
 use Rattle.plan_definition.specs.declared.Well.{Well}
+use Rattle.plan_definition.specs.declared.Rule.the-variants.{Number}
 use Rattle.plan_definition.specs.Some.{some, Among}
 use Rattle.plan_definition.specs.Well.{two, four, linkAt, wellOf}
-use Rattle.plan_definition.specs.Rules.{used, notZero, struck, rulesAt}
+use Rattle.plan_definition.specs.Rules.{used, notZero, struck, breaksNumber, ruleNumber, rulesBy, rulesAt}
 use Rattle.plan_definition.specs.Sound.{KeepsNumber, NamesInjector, KeepsRepeat, Sound}
 use Rattle.plan_definition.proofs.Some.{none-among}
 use Rattle.plan_definition.proofs.Exactly.{Passes, not-passing, equal, not-passes, both}
@@ -57,6 +58,11 @@ named-number ws k keeps n z = keeps (n .0) (n .1) (of-kind (n .0) (λ y. omega (
 pub exempt-rules : (ws : List Well) (w : Well) → struck w ≡ true → rulesAt ws w ≡ []
 unfolding rulesAt pick
 exempt-rules ws w e = rw e
+
+-- a record of number 0 that isn't struck breaks the rule of the number
+pub number-0 : (ws : List Well) (w : Well) → struck w ≡ false → w .number ≡ 0 → firstOf (rulesAt ws w) ≡ ruleNumber Number
+unfolding rulesAt rulesBy breaksNumber firstOf pick
+number-0 ws w s e = rw (s, eq-eqb (w .number) 0 e)
 
 -- bytes are zeros exactly when the first n are and the rest
 first-zeros : (n : ℕ) (x : List ℕ) → allZero x ≡ (everyBelow n (λ i. eqb (getD x i 0) 0) && allZero (drop n x))

@@ -7,20 +7,23 @@ use mathlib.Core.List.{List, [], _∷_}
 use Prim.Native.Nat.{ℕ, zero, suc, _*_, _<_, _≤_}
 use native.Mathlib.Omega.{arith}
 use lib.Dec.{ltb}
-use lib.ListN.{length}
-use Rattle.definition.specs.Refusal.{SHEET, pick, firstOf, whenDone}
+use lib.ListN.{length, take, drop}
+use Rattle.definition.specs.Refusal.{SHEET, First, pick, firstOf, whenDone}
 use Rattle.sheet_definition.specs.Refusals.{sheetRefusal}
 use Rattle.sheet_definition.specs.Sheet.{cut}
+use Rattle.sheet_definition.specs.Struck.{allZero}
 use Rattle.plan_definition.specs.declared.Well.{Well}
 use Rattle.plan_definition.specs.declared.Rule.{Rule}
 use Rattle.plan_definition.specs.declared.Verdict.{Verdict}
 use Rattle.plan_definition.specs.declared.Verdict.the-variants.{Refused, Sound, Fault}
 use Rattle.plan_definition.specs.declared.ContentAnswer.{ContentAnswer}
-use Rattle.plan_definition.specs.Well.{wells}
+use Rattle.plan_definition.specs.Well.{wellOf, wells}
 use Rattle.plan_definition.specs.Rules.{ruleNumber, rulesAt}
 use Rattle.plan_definition.specs.Sound.{Sound as SoundSheet}
 use Rattle.plan_definition.specs.Check.{foundAt, firstFault, checkRefusals, verdict, answerOf}
 use Rattle.plan_definition.proofs.Exactly.{Passes, Fails, less, not-less, either, neither}
+use Rattle.plan_definition.proofs.Struck.{exempt-rules, struck-by-bytes}
+use Rattle.plan_definition.proofs.Places.{wells-at}
 use Rattle.plan_definition.proofs.Faults.{rule-number, rule-back, found, FirstFault, rising, none-faulty, first-faulty}
 
 -- whether a sheet's bytes are enough for n records, and n small enough
@@ -96,6 +99,18 @@ module _ (sheet : List ℕ) (n : ℕ) where
   fault-exactly rule place =
       exactly (Fault rule place) (λ e. let z : _≡_ {A = ℕ} 0 1 = cc in omega arith)
       (first-faulty (wells n sheet) rule place (wells n sheet) (rising 0 (cut n sheet)))
+
+  -- a struck place is never the fault
+  pub struck-exempt : (rule : Rule) (place : ℕ) → allZero (take 40 (drop (40 * place) sheet)) ≡ true → verdict sheet n ≡ Fault rule place → ⊥
+  unfolding wellOf
+  struck-exempt rule place z e =
+      let f = fault-exactly rule place .0 e .2 in
+      let at = wells-at n sheet (f .well) .0 (f .among) in
+      let p : at .0 ≡ place = sym (ap (λ (w : Well). w .place) (at .2)) ∙ f .at in
+      no-first (rw (exempt-rules (wells n sheet) (f .well) (rw (at .2) (struck-by-bytes (at .0) _ ∙ rw p z))) at (f .first-broken))
+    where
+      no-first : {k : ℕ} → First k [] → ⊥
+      no-first = elim [ ]
 
   -- C sees the number of the refusal
   pub answers : answerOf (verdict sheet n) .number ≡ firstOf (checkRefusals n (length sheet))
