@@ -7,7 +7,7 @@ use lib.IntN.{ℤ, pos, negℤ}
 use lib.ListN.{length, replicate}
 use Rattle.definition.specs.Refusal.{BATCH, SHEET, LIST}
 use Rattle.definition.specs.Buffer.{joined}
-use Rattle.plan_definition.proofs.Examples.{well, inj, prod}
+use Rattle.plan_definition.proofs.Examples.{well, inj, prod, gone}
 use Rattle.brine_definition.specs.Count.{sum}
 use Rattle.brine_definition.specs.Statement.{BrineOutcome, brineOutcome}
 use Rattle.brine_definition.proofs.Computed.{everything}
@@ -78,6 +78,12 @@ pub record Table : Type 0 where
       ≡ told 2 1 200000 1
       ((0, pos 0) ∷ (100000, negℤ (pos 50000)) ∷ (0, pos 0) ∷ (0, pos 0) ∷ (0, pos 0) ∷ (100000, pos 0) ∷ (0, pos 0) ∷ [])
   pub all-faulted : asked (faulty ∷ (inj 0 ∷ []) ∷ []) ≡ told 0 2 0 0 ((0, pos 0) ∷ (0, pos 0) ∷ (0, pos 0) ∷ (0, pos 0) ∷ [])
+  -- a struck record has its place and 0 in both lists, in a sound sheet and in a faulted one
+  pub struck-between : asked ((gone ∷ prod 1 ((2, 1000) ∷ []) ∷ gone ∷ inj 2 ∷ gone ∷ []) ∷ fit ∷ [])
+      ≡ told 2 0 200000 1
+      ((0, pos 0) ∷ (0, pos 0) ∷ (0, pos 0) ∷ (100000, negℤ (pos 50000)) ∷ (0, pos 0) ∷ (100000, pos 0) ∷ (0, pos 0) ∷ [])
+  pub all-struck : asked (replicate 3 (gone ∷ gone ∷ [])) ≡ told 3 0 0 0 (replicate 6 (0, pos 0))
+  pub struck-in-faulted : asked ((gone ∷ inj 0 ∷ inj 2 ∷ []) ∷ []) ≡ told 0 1 0 0 ((0, pos 0) ∷ (0, pos 0) ∷ (0, pos 0) ∷ [])
   pub largest-spare : asked ((rated 9 100000 ∷ []) ∷ []) ≡ told 1 0 0 0 ((0, pos 100000000) ∷ [])
   pub largest-intake : asked ((rated 9 0 ∷ flood 1 ∷ flood 2 ∷ flood 3 ∷ flood 4 ∷ []) ∷ [])
       ≡ told 1 0 400000000 1 ((400000000, negℤ (pos 400000000)) ∷ (0, pos 0) ∷ (0, pos 0) ∷ (0, pos 0) ∷ (0, pos 0) ∷ [])

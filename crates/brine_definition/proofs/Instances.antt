@@ -1,5 +1,5 @@
--- The hypotheses of the statement's laws can be met: a sound sheet whose producer sends, a batch that isn't refused, and two batches that
--- differ within a faulted sheet.
+-- The hypotheses of the statement's laws can be met: a sound sheet whose producer sends, a batch that isn't refused, two batches that differ within
+-- a faulted sheet, and a struck record.
 -- Assumes nothing.
 use mathlib.Core.Path.{_≡_, refl, ap}
 use mathlib.Core.List.{List, [], _∷_, _++_}
@@ -10,7 +10,7 @@ use lib.ListN.{getD, replicate}
 use Rattle.definition.specs.Buffer.{joined}
 use Rattle.sheet_definition.specs.Sheet.{cut}
 use Rattle.plan_definition.specs.Well.{wells}
-use Rattle.plan_definition.proofs.Examples.{well}
+use Rattle.plan_definition.proofs.Examples.{well, gone}
 use Rattle.plan_definition.proofs.Instances.{plan, plan-sound}
 use Rattle.brine_definition.specs.Count.{sum}
 use Rattle.brine_definition.specs.Page.{rows}
@@ -19,7 +19,7 @@ use Rattle.brine_definition.specs.Said.{before, AnswerFits, OneMore}
 use Rattle.brine_definition.specs.Said.Alike.{none, equal, faulted}
 use Rattle.brine_definition.proofs.Conserved.{conserved}
 use Rattle.brine_definition.proofs.Outcomes.{given}
-use Rattle.brine_definition.proofs.Rows.{spare-at}
+use Rattle.brine_definition.proofs.Rows.{spare-at, struck-row}
 use Rattle.brine_definition.proofs.Figures.{answer-fits}
 use Rattle.brine_definition.proofs.Faulted.{own-count-only, content-unread}
 use Rattle.brine_definition.proofs.Computed.{everything}
@@ -63,3 +63,12 @@ other-bytes e = let z : _≡_ {A = ℕ} 1 2 = ap (λ (l : List ℕ). getD l 87 0
 pub one-outcome : (intake : List ℕ) (spare : List ℤ) → brineOutcome (spoilt 1) counts intake spare ≡ brineOutcome (spoilt 2) counts intake spare
 unfolding everything joined
 one-outcome intake spare = content-unread (spoilt 1) (spoilt 2) counts intake spare refl (equal (faulted refl refl refl none))
+
+-- a struck record before the plan, in a sheet that isn't refused: struck-row
+abbrev pub thinned : List ℕ
+thinned = gone ++ plan
+
+pub struck-zeros : (getD (brineOutcome thinned (3 ∷ []) (replicate 3 9) (replicate 3 (pos 9)) .intake) 0 0 ≡ 0)
+    × (getD (brineOutcome thinned (3 ∷ []) (replicate 3 9) (replicate 3 (pos 9)) .spare) 0 (pos 0) ≡ pos 0)
+unfolding everything joined
+struck-zeros = struck-row thinned (3 ∷ []) (replicate 3 9) (replicate 3 (pos 9)) refl 0 0 (omega arith) (omega arith) refl

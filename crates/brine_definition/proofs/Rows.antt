@@ -1,16 +1,22 @@
--- Where a row stands: record i of sheet k has place (records of the sheets before) + i, in the page and in both lists.
+-- Where a row stands: record i of sheet k has place (records of the sheets before) + i, in the page and in both lists; a struck record has zeros there.
 -- Assumes nothing.
-use mathlib.Core.Path.{_≡_, _∙_}
+use mathlib.Core.Path.{_≡_, ap, _∙_}
+use mathlib.Core.Bool.{true, and-false}
 use mathlib.Core.List.{List, [], _∷_, _++_, map}
 use Prim.Native.Nat.{ℕ, zero, suc, _+_, _*_, _<_}
 use native.Mathlib.Omega.{arith}
 use lib.IntN.{ℤ, pos}
-use lib.ListN.{length, getD, drop, length-map, List·getD-append, List·getD-map}
+use lib.ListN.{length, getD, take, drop, length-map, List·getD-append, List·getD-map}
 use lib.Seq.{drop-drop, getD-append-add}
+use Rattle.sheet_definition.specs.Struck.{allZero}
 use Rattle.plan_definition.specs.Well.{wells}
+use Rattle.plan_definition.specs.Rules.{injector}
+use Rattle.plan_definition.specs.Check.{sound}
+use Rattle.plan_definition.proofs.Struck.{nothing-set, struck-by-bytes}
+use Rattle.plan_definition.proofs.Places.{wellAt}
 use Rattle.plan_definition.proofs.Listed.{length-wells, each-at}
 use Rattle.brine_definition.specs.Count.{sum}
-use Rattle.brine_definition.specs.Page.{Row, rows, rowIn}
+use Rattle.brine_definition.specs.Page.{Row, rowWhen, rows, rowIn}
 use Rattle.brine_definition.specs.Statement.{batch, page, intakes, spares, brineOutcome}
 use Rattle.brine_definition.specs.Said.{before, sheetAt, rowAt, noRow}
 use Rattle.brine_definition.proofs.Sound.{length-rows, length-page}
@@ -20,6 +26,11 @@ use Rattle.brine_definition.proofs.Outcomes.{given, done}
 sheet-row : (n i : ℕ) (sheet : List ℕ) → i < n → getD (rows (wells n sheet)) i noRow ≡ rowAt n i sheet
 unfolding rows
 sheet-row n i sheet h = each-at n sheet (rowIn (wells n sheet)) noRow i h
+
+-- that of a struck record is zeros
+no-row : (n i : ℕ) (sheet : List ℕ) → allZero (take 40 (drop (40 * i) sheet)) ≡ true → rowAt n i sheet ≡ noRow
+unfolding rowWhen injector
+no-row n i sheet z = rw (nothing-set (wellAt i sheet) .0 (struck-by-bytes i _ ∙ z) .1 .0, and-false (sound (wells n sheet)))
 
 -- the row of record i of sheet k
 pub row-at : (counts sheets : List ℕ) (k i : ℕ) → k < length counts → i < getD counts k 0
@@ -70,3 +81,11 @@ module _ (sheets counts intake : List ℕ) (spare : List ℤ) (e : given sheets 
   spare-at =
       rw (done sheets counts intake spare e, ← row-at counts sheets k i h l)
       (figure-at (λ r. r .spare) (page (batch counts sheets)) (drop (sum counts) spare) (before counts k + i) in-page)
+
+  -- "it has 0 in both lists"
+  pub struck-row : allZero (take 40 (drop (40 * i) (sheetAt counts sheets k))) ≡ true
+      → (getD (brineOutcome sheets counts intake spare .intake) (before counts k + i) 0 ≡ 0)
+      × (getD (brineOutcome sheets counts intake spare .spare) (before counts k + i) (pos 0) ≡ pos 0)
+  struck-row z =
+      let r = no-row (getD counts k 0) i (sheetAt counts sheets k) z in
+      (intake-at ∙ ap (λ (r : Row). r .intake) r, spare-at ∙ ap (λ (r : Row). r .spare) r)
