@@ -6,7 +6,7 @@ use mathlib.Core.List.{List, [], _∷_, _++_}
 use lib.ListN.{length, replicate}
 use Rattle.definition.specs.Refusal.{SHEET, HOPS, UNSOUND, WELL, REACH}
 use Rattle.definition.specs.Buffer.{joined}
-use Rattle.plan_definition.proofs.Examples.{inj, prod, quarters}
+use Rattle.plan_definition.proofs.Examples.{inj, prod, gone, all-but, quarters}
 use Rattle.reach_definition.specs.Reach.{ReachOutcome, reachOutcome}
 use Rattle.reach_definition.proofs.Computed.{everything}
 
@@ -33,6 +33,10 @@ row = prod 3 ((2, 500) ∷ (4, 500) ∷ []) ∷ inj 2 ∷ prod 5 ((4, 1000) ∷ 
 abbrev pub parts : List (List ℕ)
 parts = prod 1 ((2, 1000) ∷ []) ∷ inj 2 ∷ prod 3 ((4, 1000) ∷ []) ∷ inj 4 ∷ inj 6 ∷ []
 
+-- a part with struck records around it
+abbrev pub thinned : List (List ℕ)
+thinned = gone ∷ prod 1 ((2, 1000) ∷ []) ∷ gone ∷ inj 2 ∷ gone ∷ []
+
 -- a sheet that Q-1 faults: its producer links no injector
 abbrev pub faulty : List (List ℕ)
 faulty = prod 1 ((9, 1000) ∷ []) ∷ inj 2 ∷ []
@@ -57,6 +61,13 @@ pub record Table : Type 0 where
   pub one-part : asked parts 1 3 ≡ told (1 ∷ 1 ∷ 0 ∷ 0 ∷ 0 ∷ [])
   pub other-part : asked parts 4 3 ≡ told (0 ∷ 0 ∷ 1 ∷ 1 ∷ 0 ∷ [])
   pub alone : asked parts 6 3 ≡ told (0 ∷ 0 ∷ 0 ∷ 0 ∷ 1 ∷ [])
+  -- struck records are never marked, and number 0 stays absent
+  pub struck-0 : asked thinned 2 0 ≡ told (0 ∷ 0 ∷ 0 ∷ 1 ∷ 0 ∷ [])
+  pub struck-3 : asked thinned 1 3 ≡ told (0 ∷ 1 ∷ 0 ∷ 1 ∷ 0 ∷ [])
+  pub struck-number-0 : (reached : List ℕ) → reachOutcome (joined thinned) 5 0 3 reached ≡ turned WELL reached
+  pub all-struck : (well : ℕ) (reached : List ℕ) → reachOutcome (joined (gone ∷ gone ∷ [])) 2 well 3 reached ≡ turned WELL reached
+  pub note-set : (well : ℕ) (reached : List ℕ) → reachOutcome (joined (gone ∷ all-but 39 ∷ [])) 2 well 3 reached ≡ turned UNSOUND reached
+  pub bytes-4-with-struck : reachOutcome (joined thinned) 5 1 3 (replicate 4 9) ≡ turned REACH (replicate 4 9)
   -- refused in the request's order; numbers are judged whole
   pub n-1025 : (sheet : List ℕ) (well hops : ℕ) (reached : List ℕ) → reachOutcome sheet 1025 well hops reached ≡ turned SHEET reached
   pub bytes-39 : (well hops : ℕ) (reached : List ℕ) → reachOutcome (replicate 39 0) 1 well hops reached ≡ turned SHEET reached

@@ -1,4 +1,4 @@
--- The hypotheses of the laws of who depends on a well can be met: in the line of the examples, from its end with two hops.
+-- The hypotheses of the laws of who depends on a well can be met: in the line of the examples, from its end with two hops, and among struck records.
 -- Assumes nothing.
 use mathlib.Core.Path.{_≡_, refl}
 use mathlib.Core.List.{List}
@@ -13,8 +13,9 @@ use Rattle.plan_definition.specs.Well.{wells}
 use Rattle.plan_definition.proofs.Places.{wellAt}
 use Rattle.reach_definition.specs.Chain.{Joined}
 use Rattle.reach_definition.proofs.Outcomes.{given}
-use Rattle.reach_definition.proofs.Marked.{byteAfter, Named, named-well, marked-exactly, number-whole, more-hops, both-ways}
-use Rattle.reach_definition.proofs.Examples.{row}
+use Rattle.reach_definition.proofs.Refused.{none-refused, zero-absent}
+use Rattle.reach_definition.proofs.Marked.{byteAfter, Named, named-well, marked-exactly, struck-unmarked, number-whole, more-hops, both-ways}
+use Rattle.reach_definition.proofs.Examples.{row, thinned}
 use Rattle.reach_definition.proofs.Computed.{everything}
 
 abbrev pub sheet : List ℕ
@@ -54,3 +55,17 @@ line-bytes i =
 
 pub nobody : Named sheet 5 65539 → ⊥
 nobody = number-whole sheet 5 65539 line-bytes (omega arith)
+
+-- injector 2 among struck records: struck-unmarked, zero-absent
+pub thinned-accepted : given (joined thinned) 5 2 3 (replicate 5 9) ≡ 0
+unfolding everything joined
+thinned-accepted = refl
+
+pub first-unmarked : byteAfter (joined thinned) 5 2 3 (replicate 5 9) 0 ≡ 0
+unfolding everything joined
+first-unmarked = struck-unmarked (joined thinned) 5 2 3 (replicate 5 9) thinned-accepted 0 (omega arith) refl
+
+pub nobody-0 : given (joined thinned) 5 0 3 (replicate 5 9) ≡ 21
+nobody-0 =
+    let s = none-refused (joined thinned) 5 2 3 5 .0 thinned-accepted in
+    zero-absent (joined thinned) 5 3 5 (s .0) (s .1 .0) (s .1 .1 .0)

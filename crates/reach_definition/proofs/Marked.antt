@@ -1,19 +1,21 @@
--- What a mark says. A record is marked exactly when a chain of at most so many links joins it to the well; more hops never unmark one; and
--- joined is mutual.
+-- What a mark says. A record is marked exactly when a chain of at most so many links joins it to the well, so a struck one never is; more hops never
+-- unmark one; and joined is mutual.
 -- Assumes nothing.
 use mathlib.Core.Path.{_≡_, refl, sym, _∙_}
 use mathlib.Core.Logic.{_↔_, Iff·trans}
-use mathlib.Core.Bool.{Bool, true, false}
+use mathlib.Core.Bool.{Bool, true, false, true≢false}
 use mathlib.Core.List.{List}
-use Prim.Native.Nat.{ℕ, _<_, _≤_}
+use Prim.Native.Nat.{ℕ, _*_, _<_, _≤_}
 use native.Mathlib.Omega.{arith}
-use lib.ListN.{length, getD, drop, List·getD-append}
+use lib.ListN.{length, getD, take, drop, List·getD-append}
 use Rattle.definition.specs.Refusal.{pick}
+use Rattle.sheet_definition.specs.Struck.{allZero}
 use Rattle.plan_definition.specs.declared.Well.{Well}
 use Rattle.plan_definition.specs.Some.{Among}
 use Rattle.plan_definition.specs.Well.{wells}
 use Rattle.plan_definition.specs.Rules.{struck}
 use Rattle.plan_definition.specs.Sound.{Sound}
+use Rattle.plan_definition.proofs.Struck.{struck-by-bytes}
 use Rattle.plan_definition.proofs.Places.{wellAt, wells-at}
 use Rattle.plan_definition.proofs.Listed.{each-at, number-fits}
 use Rattle.reach_definition.specs.Chain.{Joined}
@@ -83,6 +85,12 @@ module _ (sheet : List ℕ) (n k hops : ℕ) (reached : List ℕ) (e : given she
     -- "1 or 0"
     pub unmarked-exactly : (byteAfter sheet n k hops reached i ≡ 0) ↔ (byteAfter sheet n k hops reached i ≡ 1 → ⊥)
     unmarked-exactly = rw byte-at (zero-or-one (joined (wells n sheet) k hops (wellAt i sheet)))
+
+    -- "is never marked"
+    pub struck-unmarked : allZero (take 40 (drop (40 * i) sheet)) ≡ true → byteAfter sheet n k hops reached i ≡ 0
+    struck-unmarked z =
+        unmarked-exactly .1 (λ b.
+        true≢false (sym (struck-by-bytes i _ ∙ z) ∙ end-stands (named-well .stands) (marked-exactly named-well .0 b .chain)))
 
 -- a number that isn't two bytes is none of a sheet's, however its low bytes read
 pub number-whole : (sheet : List ℕ) (n k : ℕ) → ((i : ℕ) → getD sheet i 0 < 256) → 65536 ≤ k → Named sheet n k → ⊥

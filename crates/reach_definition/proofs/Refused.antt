@@ -99,3 +99,8 @@ module _ (sheet : List ℕ) (n k hops reached : ℕ) where
   none-refused =
       Iff·trans (none-exactly _ (omega arith))
       (none-holds room (none-holds near (none-holds makes-sense (none-holds there (last-fails (not-less reached n))))))
+
+-- so it is refused
+pub zero-absent : (sheet : List ℕ) (n hops reached : ℕ) → Room n (length sheet) → hops ≤ 3 → Sound (wells n sheet)
+    → firstOf (reachRefusals sheet n 0 hops reached) ≡ 21
+zero-absent sheet n hops reached r h s = absent sheet n 0 hops reached .1 (r, (h, (s, none-zero (wells n sheet) s)))
