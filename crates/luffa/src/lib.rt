@@ -5,7 +5,7 @@ ghost use mathlib.Core.Path.{_≡_};
 ghost use Rattle.hash_definition.specs.Calls.{digestBitsOutcome, digestOutcome, startOutcome, feedBitsOutcome, feedOutcome, finishOutcome};
 ghost use Rattle.hash_definition.specs.Lent.{lentStartOutcome, lentFeedBitsOutcome, lentFeedOutcome, lentFinishOutcome};
 ghost use Rattle.hash_definition.specs.Output.{outputBitsOutcome, outputOutcome, finishOutputOutcome, lentFinishOutputOutcome};
-ghost use Rattle.sheet_definition.specs.SheetCalls.{buildOutcome, changeOutcome, appendOutcome, dropOutcome, batchOutcome, ownOutcome};
+ghost use Rattle.sheet_definition.specs.SheetCalls.{buildOutcome, changeOutcome, appendOutcome, dropOutcome, batchOutcome, closeUpOutcome, ownOutcome};
 ghost use Rattle.sheet_definition.specs.SheetCalls.Kind.{Change, Append, Drop};
 ghost use Rattle.sheet_definition.specs.Own.{locatedAnswer};
 ghost use Rattle.mend_definition.specs.Mend.{mendOutcome, mendAnswer};
@@ -210,6 +210,22 @@ pub extern "C" fn luffa_sheet_batch(
     ensures { λ r. ⌜ record { answer = r; sheet = now (sheet .exit); marks = now (marks .exit); out = now (out .exit) } ≡ batchOutcome code (now (sheet .entry)) n (now (marks .entry)) (now (places .entry)) (now («records» .entry)) (now (claim .entry)) (now (out .entry)) ⌝ }
 {
     sheet_batch::batch(code, sheet, n, marks, places, records, claim, out)
+}
+
+// Struck records removed, with the old place of each that is left.
+#[no_mangle]
+pub extern "C" fn luffa_sheet_close_up(
+    code: usize,
+    sheet: &mut [u8],
+    n: usize,
+    marks: &mut [u32],
+    claim: &[u8],
+    places: &mut [u16],
+    out: &mut [u8],
+) -> Answer
+    ensures { λ r. ⌜ record { answer = r; sheet = now (sheet .exit); marks = now (marks .exit); places = now (places .exit); out = now (out .exit) } ≡ closeUpOutcome code (now (sheet .entry)) n (now (marks .entry)) (now (claim .entry)) (now (places .entry)) (now (out .entry)) ⌝ }
+{
+    sheet_close_up::close_up(code, sheet, n, marks, claim, places, out)
 }
 
 // A record added at the end.
