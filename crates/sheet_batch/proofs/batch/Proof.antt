@@ -1,6 +1,6 @@
 -- `sheet_batch::batch` meets its contract: turned away, checked and nothing else, or put together from the records written and the work.
 -- Assumes nothing.
-use mathlib.Core.Path.{_≡_, refl, sym, ap, _∙_}
+use mathlib.Core.Path.{_≡_, refl, ap, _∙_}
 use Prim.Native.Nat.{_+_, _*_, _<_, _≤_}
 use native.Mathlib.Omega.{arith}
 use denote.Ref.{now}
@@ -9,13 +9,11 @@ use lib.ListN.{length}
 use Rattle.definition.specs.Refusal.{firstOf}
 use Rattle.definition.proofs.Every.{every-so}
 use Rattle.sheet_definition.specs.Sheet.{World, recordBytes, q}
-use Rattle.sheet_definition.specs.Save.{refusedWith, checked, saveOutcome}
+use Rattle.sheet_definition.specs.Save.{refusedWith}
 use Rattle.sheet_definition.specs.SheetCalls.{Call, refusalsOf, saveOf, call, batching}
-use Rattle.sheet_definition.proofs.Outcomes.{accepted}
-use Rattle.sheet_definition.proofs.Refused.{Fits}
 use Rattle.sheet_definition.proofs.Edits.{proper, Many, many}
 use Rattle.bytes.proofs.Total.{write-at}
-use Rattle.sheet_work.proofs.Admission.{few-rounds, turned-away, goes-on, fresh}
+use Rattle.sheet_work.proofs.Admission.{few-rounds, turned-away, fresh, Onward, asked-of, onward}
 use Rattle.sheet_batch.proofs.Places.{first-of}
 use Rattle.sheet_batch.proofs.Done.{none-done, some-done}
 use Rattle.sheet_batch.proofs.batch.Statement.{statement}
@@ -41,13 +39,7 @@ abbrev judging : tie.After-admit → tie.After-judge
 judging k = k .before .before .before
 
 admit-requires : tie.Need-admit-requires
-unfolding saveOf
-admit-requires c κs z =
-    let j = c .before .before in
-    let p = proper (lent j) (asked j) in
-    let e = sym (judged j) ∙ z in
-    let f = p .room e in
-    (f .count, f .sheet-room, f .marks-room, p .claim-size e)
+admit-requires c κs = let j = c .before .before in asked-of (lent j) (asked j) (judged j)
 
 returns : tie.Need-returns
 unfolding refusedWith call saveOf
@@ -58,32 +50,23 @@ returns c =
     let d = k .admit .ensures in
     rw (d .1) (turned-away (lent j) (saveOf (lent j) (asked j)) refl (judged j) (d .0) (t .if1 .taken))
 
--- it goes on: by no refusal, after which rounds, and to which outcome
+-- it goes on
 abbrev admitted : tie.Else1 → tie.After-admit
 admitted c = c .before .before .before .before
 
-goes : (c : tie.Else1) → let j = judging (admitted c) in
-    (j .judge .result ≡ 0)
-    × ((admitted c .admit .result .rounds ≡ checked (lent j) .rounds) × (accepted (lent j) (saveOf (lent j) (asked j)) ≡ saveOutcome (lent j) (saveOf (lent j) (asked j))))
+goes : (c : tie.Else1) → let k = admitted c in Onward (lent (judging k)) (asked (judging k)) (k .admit .result .rounds)
 unfolding saveOf
 goes c =
-    let j = judging (admitted c) in
-    goes-on (lent j) (saveOf (lent j) (asked j)) refl (judged j) (admitted c .admit .ensures .0) (c .if1 .left)
-
--- with arguments as they should be
-valid : (c : tie.Else1) → let j = judging (admitted c) in firstOf (saveOf (lent j) (asked j) .refusals) ≡ 0
-valid c = sym (judged (judging (admitted c))) ∙ goes c .0
-
-fine : (c : tie.Else1) → let j = judging (admitted c) in Fits (lent j) (now (entered j .args .out))
-unfolding saveOf
-fine c = let j = judging (admitted c) in proper (lent j) (asked j) .room (valid c)
+    let k = admitted c in
+    let j = judging k in
+    onward (lent j) (asked j) (judged j) refl (k .admit .ensures .0) (c .if1 .left)
 
 all : (c : tie.Else1) → let j = judging (admitted c) in let a = entered j .args in Many (lent j) (asked j) (now (a .places)) (now (a .records))
 unfolding saveOf
-all c = let j = judging (admitted c) in many (lent j) (asked j) _ _ (valid c)
+all c = let j = judging (admitted c) in many (lent j) (asked j) _ _ (goes c .valid)
 
 returns-2 : tie.Need-returns-2
-unfolding call saveOf
+unfolding saveOf
 returns-2 c =
     let p = c .before .before in
     let t = p .before .before in
@@ -91,20 +74,20 @@ returns-2 c =
     let k = admitted e in
     let j = judging k in
     let a = entered j .args in
-    let g = goes e .1 in
-    let s = proper (lent j) (asked j) .claim-size (valid e) in
+    let g = goes e in
+    let s = proper (lent j) (asked j) .claim-size (g .valid) in
     rw (k .admit .ensures .1)
-    (none-done (lent j) (now (a .places)) (now (a .records)) (now (a .claim)) (now (a .out)) _ _ (t .if2 .taken) (g .0)
-    (p .put-bytes .ensures ∙ write-at 0 (now (a .claim)) (now (a .out)) (omega (arith, s, fine e .out-room)))
+    (none-done (lent j) (now (a .places)) (now (a .records)) (now (a .claim)) (now (a .out)) _ _ (t .if2 .taken) (g .checked-so-far)
+    (p .put-bytes .ensures ∙ write-at 0 (now (a .claim)) (now (a .out)) (omega (arith, s, g .room .out-room)))
     (fresh (lent j) (saveOf (lent j) (asked j)) refl (judged j) (k .admit .ensures .0) (e .if1 .left))
-    ∙ g .1)
+    ∙ g .outcome)
 
 put-requires : tie.Need-put-requires
 put-requires c κs =
     let e = c .before .before in
     let a = entered (judging (admitted e)) .args in
     let m = all e in
-    let f = fine e in
+    let f = goes e .room in
     (every-so (λ i. i < a .n) (λ i. recordBytes * (i + 1) ≤ length (now (a .sheet))) (now (a .places)) (λ i h. omega (arith, f .sheet-room)) (m .below), m .sizes)
 
 work-on-requires : tie.Need-work-on-requires
@@ -114,17 +97,17 @@ work-on-requires c κs =
     let e = p .before .before .before in
     let k = admitted e in
     let a = entered (judging k) .args in
-    let f = fine e in (
+    let f = goes e .room in (
       f .count,
       omega (arith, f .sheet-room, p .put .kept .0),
       omega (arith, f .marks-room, ap length (k .admit .ensures .1)),
       omega (arith, first-of (λ i. i < a .n) (now (a .places)) (omega arith) (all e .below) .0),
-      omega (arith, goes e .1 .0, few-rounds (lent (judging k)) (f .sheet-room)),
+      omega (arith, goes e .checked-so-far, few-rounds (lent (judging k)) (f .sheet-room)),
       f .out-room,
     )
 
 returns-3 : tie.Need-returns-3
-unfolding call saveOf q
+unfolding saveOf q
 returns-3 c =
     let w = c .before .before .before .before in
     let p = w .before .before .before .before .before .before .before in
@@ -132,10 +115,10 @@ returns-3 c =
     let k = admitted e in
     let j = judging k in
     let a = entered j .args in
-    let g = goes e .1 in
+    let g = goes e in
     let o = rw (k .admit .ensures .1) at (w .work-on .ensures) in
-    some-done (lent j) (now (a .places)) (now (a .records)) (now (a .claim)) (now (a .out)) _ _ _ _ _ (omega arith) (g .0) (p .put .ensures) (o .0) (o .1 .0) (o .1 .1)
-    ∙ g .1
+    some-done (lent j) (now (a .places)) (now (a .records)) (now (a .claim)) (now (a .out)) _ _ _ _ _ (omega arith) (g .checked-so-far) (p .put .ensures) (o .0) (o .1 .0) (o .1 .1)
+    ∙ g .outcome
 
 pub batch-spec : {M : Type 1} → statement M
 batch-spec =

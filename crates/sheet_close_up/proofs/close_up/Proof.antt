@@ -1,6 +1,6 @@
 -- `sheet_close_up::close_up` meets its contract: turned away, or put together from the records gathered, what is zeroed, and the work.
 -- Assumes nothing.
-use mathlib.Core.Path.{_≡_, refl, sym, ap, _∙_}
+use mathlib.Core.Path.{_≡_, refl, ap, _∙_}
 use Prim.Native.Nat.{_≤_}
 use native.Mathlib.Omega.{arith}
 use denote.Ref.{now}
@@ -9,16 +9,14 @@ use lib.ListN.{length}
 use Rattle.definition.specs.Refusal.{PLACES, firstOf}
 use Rattle.definition.proofs.Refusals.{fails}
 use Rattle.sheet_definition.specs.Sheet.{World, cut, q}
-use Rattle.sheet_definition.specs.Save.{checked, saveOutcome}
 use Rattle.sheet_definition.specs.SheetCalls.{Call, refusalsOf, saveOf, call, closingUp}
-use Rattle.sheet_definition.proofs.Outcomes.{accepted}
 use Rattle.sheet_definition.proofs.Joined.{length-cut}
-use Rattle.sheet_definition.proofs.Refused.{Fits, list-fits, judging as refusing}
+use Rattle.sheet_definition.proofs.Refused.{list-fits, judging as refusing}
 use Rattle.sheet_definition.proofs.Struck.{fewer, first-stands}
-use Rattle.sheet_definition.proofs.Edits.{numbered, proper}
+use Rattle.sheet_definition.proofs.Edits.{numbered}
 use Rattle.sheet_marks.specs.Total.{cleared}
 use Rattle.sheet_marks.proofs.Total.{cleared-past}
-use Rattle.sheet_work.proofs.Admission.{few-rounds, turned-away, goes-on}
+use Rattle.sheet_work.proofs.Admission.{few-rounds, turned-away, Onward, asked-of, onward}
 use Rattle.sheet_close_up.proofs.Together.{list-stays, together}
 use Rattle.sheet_close_up.proofs.close_up.Statement.{statement}
 use Rattle.sheet_close_up.proofs.close_up.Tie as tie
@@ -43,13 +41,7 @@ abbrev judging : tie.After-admit → tie.After-close-up
 judging k = k .before .before .before
 
 admit-requires : tie.Need-admit-requires
-unfolding saveOf
-admit-requires c κs z =
-    let j = c .before .before in
-    let p = proper (lent j) (asked j) in
-    let e = sym (judged j) ∙ z in
-    let f = p .room e in
-    (f .count, f .sheet-room, f .marks-room, p .claim-size e)
+admit-requires c κs = let j = c .before .before in asked-of (lent j) (asked j) (judged j)
 
 returns : tie.Need-returns
 unfolding call saveOf
@@ -63,31 +55,22 @@ returns c =
     (list-stays (lent j) (now (a .claim)) (now (a .places)) (now (a .out)) _ _ (t .if1 .taken)
     (turned-away (lent j) (saveOf (lent j) (asked j)) refl (judged j) (d .0) (t .if1 .taken)))
 
--- it goes on: by no refusal, after which rounds, and to which outcome
+-- it goes on
 abbrev admitted : tie.Else1 → tie.After-admit
 admitted c = c .before .before .before .before
 
-goes : (c : tie.Else1) → let j = judging (admitted c) in
-    (j .close-up .result ≡ 0)
-    × ((admitted c .admit .result .rounds ≡ checked (lent j) .rounds) × (accepted (lent j) (saveOf (lent j) (asked j)) ≡ saveOutcome (lent j) (saveOf (lent j) (asked j))))
+goes : (c : tie.Else1) → let k = admitted c in Onward (lent (judging k)) (asked (judging k)) (k .admit .result .rounds)
 unfolding saveOf
 goes c =
-    let j = judging (admitted c) in
-    goes-on (lent j) (saveOf (lent j) (asked j)) refl (judged j) (admitted c .admit .ensures .0) (c .if1 .left)
-
--- with arguments as they should be
-valid : (c : tie.Else1) → let j = judging (admitted c) in firstOf (saveOf (lent j) (asked j) .refusals) ≡ 0
-valid c = sym (judged (judging (admitted c))) ∙ goes c .0
-
-fine : (c : tie.Else1) → let j = judging (admitted c) in Fits (lent j) (now (entered j .args .out))
-unfolding saveOf
-fine c = let j = judging (admitted c) in proper (lent j) (asked j) .room (valid c)
+    let k = admitted c in
+    let j = judging k in
+    onward (lent j) (asked j) (judged j) refl (k .admit .ensures .0) (c .if1 .left)
 
 listed : (c : tie.Else1) → let j = judging (admitted c) in let a = entered j .args in a .n ≤ length (now (a .places))
 unfolding saveOf refusing
 listed c =
     let j = judging (admitted c) in
-    list-fits _ _ (fails (saveOf (lent j) (asked j) .refusals) (numbered (lent j) (asked j) (asked j .kind)) (valid c) PLACES)
+    list-fits _ _ (fails (saveOf (lent j) (asked j) .refusals) (numbered (lent j) (asked j) (asked j .kind)) (goes c .valid) PLACES)
 
 -- what was gathered, from where its room is zeroed, and from where the marks are
 abbrev gathered : tie.After-zero → tie.After-gather
@@ -114,18 +97,18 @@ work-on-requires c κs =
     let e = gone g in
     let k = admitted e in
     let a = entered (judging k) .args in
-    let f = fine e in
+    let f = goes e .room in
     let l = fewer-left g in (
       omega (arith, l, f .count),
       omega (arith, l, f .sheet-room, z .zero .kept .0, g .gather .kept .0),
       omega (arith, l, f .marks-room, ap length (k .admit .ensures .1), m .clear .kept .0),
       omega (arith, g .before .before .before .first-struck .ensures, g .gather .ensures .0, first-stands (cut (a .n) (now (a .sheet)))),
-      omega (arith, goes e .1 .0, few-rounds (lent (judging k)) (f .sheet-room)),
+      omega (arith, goes e .checked-so-far, few-rounds (lent (judging k)) (f .sheet-room)),
       f .out-room,
     )
 
 returns-2 : tie.Need-returns-2
-unfolding call q
+unfolding q
 returns-2 c =
     let w = c .before .before .before .before in
     let m = w .before .before .before .before .before .before in
@@ -137,15 +120,15 @@ returns-2 c =
     let a = entered j .args in
     let o = w .work-on .ensures in
     let n = g .gather .ensures in
-    together (lent j) (now (a .claim)) (now (a .places)) (now (a .out)) _ _ _ _ _ _ _ _ _ _ (goes e .1 .0) (g .before .before .before .first-struck .ensures)
+    together (lent j) (now (a .claim)) (now (a .places)) (now (a .out)) _ _ _ _ _ _ _ _ _ _ (goes e .checked-so-far) (g .before .before .before .first-struck .ensures)
     (n .0) (n .1 .0) (n .1 .1) (z .zero .ensures)
-    (m .clear .ensures ∙ ap (cleared (a .n) (g .gather .result)) (k .admit .ensures .1) ∙ cleared-past (a .n) (g .gather .result) (now (a .marks)) (fewer-left g) (fine e .marks-room))
-    (o .0) (o .1 .0) (o .1 .1) (goes e .1 .1)
+    (m .clear .ensures ∙ ap (cleared (a .n) (g .gather .result)) (k .admit .ensures .1) ∙ cleared-past (a .n) (g .gather .result) (now (a .marks)) (fewer-left g) (goes e .room .marks-room))
+    (o .0) (o .1 .0) (o .1 .1) (goes e .outcome)
 
 pub close-up-spec : {M : Type 1} → statement M
 close-up-spec =
     tie.close
-    (tie.spec (λ c κs. tt) admit-requires (λ c. search needs) (λ c. search needs) (λ c. search needs) returns (λ c κs. fine (c .before) .sheet-room)
-    (λ c κs. let e = c .before .before .before .before in (fine e .count, fine e .sheet-room, listed e))
-    (λ c κs. let g = c .before .before .before .before .before in (fewer-left g, omega (arith, fine (gone g) .sheet-room, g .gather .kept .0))) (λ c κs. tt)
+    (tie.spec (λ c κs. tt) admit-requires (λ c. search needs) (λ c. search needs) (λ c. search needs) returns (λ c κs. goes (c .before) .room .sheet-room)
+    (λ c κs. let e = c .before .before .before .before in let f = goes e .room in (f .count, f .sheet-room, listed e))
+    (λ c κs. let g = c .before .before .before .before .before in (fewer-left g, omega (arith, goes (gone g) .room .sheet-room, g .gather .kept .0))) (λ c κs. tt)
     work-on-requires (λ c. search needs) (λ c. search needs) (λ c. search needs) (λ c. search needs) (λ c. search needs) returns-2)
