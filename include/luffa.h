@@ -11,7 +11,7 @@
  * The caller's duties, which no call can judge:
  *   - Each pointer is valid for the length that follows it: for reading, and for writing too unless
  *     it points to const. Where the length is 0 the pointer may be null. Lengths are in bytes, those
- *     of marks, own, places, counts, intake and spare in elements.
+ *     of marks, own, places, counts, intake and spare in elements, whatever size these have.
  *   - A buffer lent for writing overlaps no other buffer of the same call. So a claim isn't lent as
  *     the output buffer too.
  *   - Until the call returns, nobody else writes to a lent buffer or reads one lent for writing.
@@ -59,6 +59,8 @@ extern "C" {
 /* 15 and 16 are given by the saves that bring the planner's own marks; their 11 names a group. */
 #define LUFFA_OWN 15        /* his own count or marks can't be those of a sheet at this code */
 #define LUFFA_STALE_TAIL 16 /* as 11, but all marks that both sheets have agree */
+/* 23 is given by luffa_sheet_close_up. */
+#define LUFFA_PLACES 23 /* the list of places is shorter than the sheet has records */
 /* 12 is given by the calls for longer output. */
 #define LUFFA_WORDS 12 /* no word is asked for, or more than LUFFA_WORDS_MOST */
 /* 13 and 25 are given by luffa_plan_brine. */
@@ -262,9 +264,9 @@ struct luffa_output_answer luffa_hash_finish_output(const struct luffa_hash *has
  * A save goes like this:
  *   - Open: build, unless marks and digest were kept with the sheet, and hold the digest beside what
  *     the planner sees. Marks that were kept where they may have been spoiled are mended first.
- *   - Save: change, append, drop or a batch of changes with that digest as the claim. Where done, sheet
- *     and marks are the new ones, the answer has the new n, and the digest in out is the claim of the
- *     next save.
+ *   - Save: change, append, drop, a batch of changes or a close up with that digest as the claim. Where
+ *     done, sheet and marks are the new ones, the answer has the new n, and the digest in out is the
+ *     claim of the next save.
  *   - 11 LUFFA_STALE: somebody else has saved since. Nothing was written: open again and look.
  *   - Where to look: a planner who keeps a copy of the count and marks that he opened with, his own, saves
  *     by the calls with `_own` in their names. Then 11 names a group of four records to look at. And
@@ -394,6 +396,29 @@ struct luffa_sheet_answer luffa_sheet_drop(size_t code, uint8_t *sheet, size_t s
                                            size_t out_len);
 
 /*
+ * Closes up the struck records, which are those whose 40 bytes are all 0: takes them away, leaves the others
+ * in their order, writes zeros over the room that is freed, and gives the new digest. For each place k of the
+ * new sheet places[k] is the one that its record had; they rise, and entries from the new count on stay as
+ * they were. A later append uses the room again, and a second close up finds nothing to do.
+ *
+ * The work goes on from the mark of the first struck place's group, as it is found, or from the last mark
+ * where no record is struck: the marks of the new sheet after that one are rewritten, and those that the
+ * sheet had past the new last one become zeros. Where no record is struck, sheet and marks are left as they are,
+ * and the digest is the claim. What a record means isn't asked: one of which any byte isn't 0 stays, if only
+ * in its note.
+ *   1 LUFFA_WIDTH   code isn't 1 to 4
+ *   2 LUFFA_OUT     out_len is less than the digest's bytes at this code
+ *   5 LUFFA_SHEET   n is over LUFFA_SHEET_MOST, or sheet_len is less than 40n
+ *   6 LUFFA_MARKS   marks_len is less than LUFFA_MARKS_FOR(n)
+ *  23 LUFFA_PLACES  places_len is less than n, however many records are struck
+ *  10 LUFFA_CLAIM   claim_len isn't the digest's bytes at this code
+ *  11 LUFFA_STALE   the claim isn't the digest of the sheet held
+ */
+struct luffa_sheet_answer luffa_sheet_close_up(size_t code, uint8_t *sheet, size_t sheet_len, size_t n, uint32_t *marks,
+                                               size_t marks_len, const uint8_t *claim, size_t claim_len,
+                                               uint16_t *places, size_t places_len, uint8_t *out, size_t out_len);
+
+/*
  * Saves that say where they are stale: luffa_sheet_change, luffa_sheet_append and luffa_sheet_drop with the
  * planner's own count and marks besides, own_n and own. They are those of the sheet that he opened, at the
  * same code; as the marks held are lent for writing, his are a copy. Where done, such a save leaves and
@@ -473,7 +498,8 @@ struct luffa_sheet_where luffa_sheet_drop_own(size_t code, uint8_t *sheet, size_
 
 /*
  * What the records of a sheet mean to the balancer. The sheet calls above never ask: they save any 40
- * bytes. Each record is a well, its numbers high byte first:
+ * bytes. A record whose 40 bytes are all 0 is struck: it stands for a well that was given up, until
+ * luffa_sheet_close_up takes it away, and is no well. Each other record is one, its numbers high byte first:
  *   bytes 0 and 1      the well's number, not 0 and unlike every other of the sheet
  *   byte 2             its kind, LUFFA_PRODUCER or LUFFA_INJECTOR
  *   byte 3             its link count: the links that it uses
@@ -500,10 +526,10 @@ struct luffa_sheet_where luffa_sheet_drop_own(size_t code, uint8_t *sheet, size_
 
 /*
  * The rules, in the order in which each record is held to them, and what breaks each. A record uses the
- * first (link count) of its four links.
+ * first (link count) of its four links. A struck record is held to none of them, and no other repeats it.
  */
 #define LUFFA_SOUND 0
-#define LUFFA_RULE_NUMBER 1       /* the number is 0 */
+#define LUFFA_RULE_NUMBER 1       /* the number is 0, and another byte isn't, be it in the note */
 #define LUFFA_RULE_KIND 2         /* the kind is neither 1 nor 2 */
 #define LUFFA_RULE_LINK_COUNT 3   /* a producer has more than 4 links, or none at a rate that isn't 0, or
                                      some at rate 0; an injector has any */
@@ -524,10 +550,10 @@ struct luffa_content_answer {
 
 /*
  * Whether the n records of a sheet are sound, or else the lowest faulty place and the first rule that
- * is broken there. A sheet of no records is sound. Nothing is written; notes and what lies behind the
- * n-th record don't matter. The time is a fixed part and so much a record, however many there are. The
- * call takes up to 17 KiB of stack, luffa_plan_reach up to 25 KiB, luffa_plan_brine up to 160 KiB, every
- * other one up to 4 KiB.
+ * is broken there. A sheet of no records is sound, and so is one of struck records. Nothing is written.
+ * What lies behind the n-th record doesn't matter, nor does a note, but where all other bytes of its record
+ * are 0. The time is a fixed part and so much a record, however many there are. The call takes up to 17 KiB
+ * of stack, luffa_plan_reach up to 25 KiB, luffa_plan_brine up to 160 KiB, every other one up to 4 KiB.
  *   5 LUFFA_SHEET   n is over LUFFA_SHEET_MOST, or sheet_len is less than 40n
  */
 struct luffa_content_answer luffa_plan_check(const uint8_t *sheet, size_t sheet_len, size_t n);
@@ -539,9 +565,9 @@ struct luffa_content_answer luffa_plan_check(const uint8_t *sheet, size_t sheet_
  * rate less the intake, below zero where it is overloaded.
  *
  * Both lists have a place for each record of the batch, in order: in intake[p] and spare[p] stand the
- * figures of the record at 40p of the buffer, if it is an injector's of a sound sheet, else 0 in both.
- * Places beyond stay as they were. A sheet that luffa_plan_check faults keeps its room in the buffer and
- * its places in the lists, and counts in faulted alone.
+ * figures of the record at 40p of the buffer, if it is an injector's of a sound sheet, else 0 in both; so a
+ * struck record has 0. Places beyond stay as they were. A sheet that luffa_plan_check faults keeps its room
+ * in the buffer and its places in the lists, and counts in faulted alone.
  */
 #define LUFFA_BATCH_MOST 64
 
@@ -569,7 +595,8 @@ struct luffa_brine_answer luffa_plan_brine(const uint8_t *sheets, size_t sheets_
  * injectors that it links, an injector the producers that link it. From the record whose number is `well`,
  * reached[p] is 1 where a chain of at most `hops` links joins the record at place p, else 0, for each of the
  * n records; the bytes after stay as they were. A chain of no link joins the well to itself, so at 0 hops it
- * alone is reached. What is reached at some hops is reached at more, and reaches the well at as many.
+ * alone is reached. What is reached at some hops is reached at more, and reaches the well at as many. A struck
+ * record is never reached.
  */
 #define LUFFA_HOPS_MOST 3
 
@@ -579,7 +606,7 @@ struct luffa_brine_answer luffa_plan_brine(const uint8_t *sheets, size_t sheets_
  *  19 LUFFA_HOPS     hops is over LUFFA_HOPS_MOST
  *  20 LUFFA_UNSOUND  luffa_plan_check faults the sheet of n records
  *  21 LUFFA_WELL     no record of the sheet has the number `well`, which is judged whole: 65,539 isn't 3, and
- *                    none has 0
+ *                    none has 0, as a struck record has no number
  *  22 LUFFA_REACH    reached_len is less than n
  */
 uint32_t luffa_plan_reach(const uint8_t *sheet, size_t sheet_len, size_t n, size_t well, size_t hops,
