@@ -227,9 +227,7 @@ static void false_marks(size_t code)
 
     for (unsigned set = 1; set < 1u << (Q + 1); set++) {
         built_sheet(&s, code, N, 2);
-        for (size_t m = 0; m <= Q; m++)
-            if (set >> m & 1)
-                fill((uint8_t *)(s.marks + MARK * m), 4 * MARK);
+        falsify(&s, set);
         if (set >> Q & 1)
             sheet_call(LUFFA_STALE, BATCH, &s);
         from_mark(&s, Q, N, s.claim);

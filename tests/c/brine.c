@@ -1,6 +1,6 @@
 /* The brine statement: injectors filled to the kilogram, sound, faulted and empty sheets in every order,
-   the largest figures, and each refusal, alone and before those that come later. brine_call judges the
-   lists, and that nothing else changes. */
+   each also among struck records, the largest figures, and each refusal, alone and before those that come
+   later. brine_call judges the lists, and that nothing else changes. */
 #include "test.h"
 
 /* A batch is written sheet by sheet, each record with the figures that it must get. */
@@ -32,6 +32,12 @@ static void injector(uint32_t number, uint32_t rate, uint64_t intake, int64_t sp
 {
     put_well(b.sheets, records, LUFFA_INJECTOR, number, rate);
     figures(intake, spare);
+}
+
+static void struck(void)
+{
+    memset(b.sheets + RECORD * records, 0, RECORD);
+    figures(0, 0);
 }
 
 static void just_enough(void)
@@ -80,13 +86,15 @@ static const struct {
 };
 
 /* Each in a sheet of its own, and the numbers in all of them are the same. What the injector isn't sent
-   goes to another. */
-static void small_plants(void)
+   goes to another. Each sheet begins with so many struck records. */
+static void small_plants(size_t before)
 {
     begin();
     for (size_t i = 0; i < COUNT_OF(fits); i++) {
         uint64_t rest = fits[i].sent * (uint64_t)(1000 - fits[i].share);
         next_sheet();
+        for (size_t k = 0; k < before; k++)
+            struck();
         if (i % 2 == 0)
             injector(65535, fits[i].rate, fits[i].intake, fits[i].spare);
         producer(1, fits[i].sent);
@@ -122,8 +130,24 @@ static void small_sheet(const struct edit *fault)
         put(b.sheets, start + fault->place, fault->at, fault->bytes, fault->value);
 }
 
+/* The same wells among struck records. */
+static void struck_sheet(const struct edit *fault)
+{
+    size_t start = records;
+
+    small_sheet(fault);
+    for (size_t more = WELLS; more < AMONG_STRUCK(WELLS); more++)
+        figures(0, 0);
+    for (size_t place = 0; place < AMONG_STRUCK(WELLS); place++) {
+        int well = place % 2 == 1 && fault == NULL;
+        b.intake[start + place] = well ? small[place / 2].intake : 0;
+        b.spare[start + place] = well ? small[place / 2].spare : 0;
+    }
+    put_among_struck(b.sheets + RECORD * start, WELLS);
+}
+
 /* Up to three sheets, each of them sound, faulted or empty, for every fault. */
-static void orders(void)
+static void orders(void (*next)(const struct edit *fault))
 {
     for (size_t i = 0; i < COUNT_OF(faults); i++) {
         begin();
@@ -136,11 +160,11 @@ static void orders(void)
                 for (size_t k = 0, sorts = order; k < sheets; k++, sorts /= 3)
                     switch (sorts % 3) {
                     case 0:
-                        small_sheet(NULL);
+                        next(NULL);
                         sound++;
                         break;
                     case 1:
-                        small_sheet(&faults[i]);
+                        next(&faults[i]);
                         faulted++;
                         break;
                     default:
@@ -204,6 +228,42 @@ static void crowd(void)
 
 static void refused(uint64_t number) { brine_call((struct luffa_brine_answer){number, 0, 0, 0, 0}, &b); }
 
+/* A byte less than just enough, or a place of either list; then all is just enough. */
+static void too_short(void)
+{
+    just_enough();
+    b.sheets_len--;
+    refused(LUFFA_SHEET);
+    just_enough();
+    b.intake_len--;
+    refused(LUFFA_LIST);
+    just_enough();
+    b.spare_len--;
+    refused(LUFFA_LIST);
+    just_enough();
+}
+
+/* A sheet of struck records is sound and has its places on the page, with nothing in them; one bit in the last of them
+   makes it faulted. */
+static void only_struck(void)
+{
+    for (size_t n = 0; n <= MOST; n += n < 3 ? 1 : MOST - 3) {
+        begin();
+        small_sheet(NULL);
+        next_sheet();
+        for (size_t k = 0; k < n; k++)
+            struck();
+        small_sheet(NULL);
+        page(3, 0, 2 * SMALL_INTAKE, 2 * SMALL_OVERLOADED);
+        too_short();
+        for (size_t at = 0; n > 0 && at < RECORD; at++) {
+            put(b.sheets, WELLS + n - 1, at, 1, 1);
+            brine_call((struct luffa_brine_answer){LUFFA_DONE, 2, 1, 2 * SMALL_INTAKE, 2 * SMALL_OVERLOADED}, &b);
+            put(b.sheets, WELLS + n - 1, at, 1, 0);
+        }
+    }
+}
+
 /* As many sheets as there can be, each sending all that it can to one injector at another place; and
    the refusals at this edge. */
 static void largest(void)
@@ -224,15 +284,7 @@ static void largest(void)
     just_enough();
     brine_call((struct luffa_brine_answer){LUFFA_DONE, SHEETS, 0, 6547200000000, SHEETS}, &b);
 
-    b.sheets_len--;
-    refused(LUFFA_SHEET);
-    just_enough();
-    b.intake_len--;
-    refused(LUFFA_LIST);
-    just_enough();
-    b.spare_len--;
-    refused(LUFFA_LIST);
-    just_enough();
+    too_short();
     next_sheet();
     refused(LUFFA_BATCH);
     b.counts_len--;
@@ -345,8 +397,11 @@ static void null_pointers(void)
 
 int main(void)
 {
-    small_plants();
-    orders();
+    for (size_t before = 0; before <= 2; before++)
+        small_plants(before);
+    orders(small_sheet);
+    orders(struck_sheet);
+    only_struck();
     next_door();
     bits_of_numbers();
     crowd();

@@ -16,7 +16,7 @@ HOLDS(LUFFA_DONE == 0 && LUFFA_WIDTH == 1 && LUFFA_OUT == 2 && LUFFA_RECORD == 3
 HOLDS(LUFFA_SHEET == 5 && LUFFA_MARKS == 6 && LUFFA_PLACE == 7 && LUFFA_FULL == 8 && LUFFA_SIZE == 9);
 HOLDS(LUFFA_CLAIM == 10 && LUFFA_STALE == 11 && LUFFA_BATCH == 13 && LUFFA_LIST == 25 && LUFFA_BATCH_MOST == 64);
 HOLDS(LUFFA_ODD == 17 && LUFFA_WORDS == 12 && LUFFA_WORDS_MOST == 64);
-HOLDS(LUFFA_SET == 14 && LUFFA_CHANGES_MOST == 64);
+HOLDS(LUFFA_SET == 14 && LUFFA_CHANGES_MOST == 64 && LUFFA_PLACES == 23);
 HOLDS(LUFFA_OWN == 15 && LUFFA_STALE_TAIL == 16 && LUFFA_WHERE_SAME == 0 && LUFFA_WHERE_GROUP == 1);
 HOLDS(LUFFA_HOPS == 19 && LUFFA_UNSOUND == 20 && LUFFA_WELL == 21 && LUFFA_REACH == 22 && LUFFA_HOPS_MOST == 3);
 HOLDS(LUFFA_SHEET_MOST == 1024 && LUFFA_SHEET_RECORD_BYTES == 40 && LUFFA_MARK_WORDS == 40);
@@ -81,6 +81,8 @@ static answer (*const drop)(size_t, uint8_t *, size_t, size_t, uint32_t *, size_
                             size_t) = luffa_sheet_drop;
 static answer (*const batch)(size_t, uint8_t *, size_t, size_t, uint32_t *, size_t, const size_t *, size_t,
                              const uint8_t *, size_t, const uint8_t *, size_t, uint8_t *, size_t) = luffa_sheet_batch;
+static answer (*const close_up)(size_t, uint8_t *, size_t, size_t, uint32_t *, size_t, const uint8_t *, size_t,
+                                uint16_t *, size_t, uint8_t *, size_t) = luffa_sheet_close_up;
 typedef struct luffa_sheet_where where;
 static where (*const change_own)(size_t, uint8_t *, size_t, size_t, uint32_t *, size_t, size_t, const uint8_t *, size_t,
                                  const uint8_t *, size_t, size_t, const uint32_t *, size_t, uint8_t *,
@@ -105,6 +107,7 @@ int main(void)
     uint32_t marks[LUFFA_MARKS_FOR(1)], own[LUFFA_MARKS_FOR(0)];
     struct luffa_hash hash;
     size_t counts[] = {0, 1};
+    uint16_t places[1];
     uint64_t intake[1];
     int64_t spare[1];
 
@@ -137,8 +140,11 @@ int main(void)
                       sizeof claim, 0, own, LUFFA_MARKS_FOR(0), out, sizeof out).number != LUFFA_STALE_TAIL ||
            drop_own(LUFFA_512, sheet, sizeof sheet, 1, marks, LUFFA_MARKS_FOR(1), out, sizeof out, 0, own,
                     LUFFA_MARKS_FOR(0), claim, sizeof claim).count != 0 ||
-           mend(LUFFA_384, NULL, 0, 0, marks, LUFFA_MARKS_FOR(0)).wrong != 1 ||
-           plan_check(sheet, sizeof sheet, 1).rule != LUFFA_RULE_NUMBER ||
-           plan_brine(sheet, sizeof sheet, counts, 2, intake, 1, spare, 1).faulted != 1 ||
-           plan_reach(sheet, sizeof sheet, 1, 1, LUFFA_HOPS_MOST, out, sizeof out) != LUFFA_UNSOUND;
+           plan_check(sheet, sizeof sheet, 1).rule != LUFFA_SOUND ||
+           plan_brine(sheet, sizeof sheet, counts, 2, intake, 1, spare, 1).sound != 2 ||
+           plan_reach(sheet, sizeof sheet, 1, 1, LUFFA_HOPS_MOST, out, sizeof out) != LUFFA_WELL ||
+           build(LUFFA_512, sheet, sizeof sheet, 1, marks, LUFFA_MARKS_FOR(1), claim, sizeof claim).rounds != 4 ||
+           close_up(LUFFA_512, sheet, sizeof sheet, 1, marks, LUFFA_MARKS_FOR(1), claim, sizeof claim, places, 1, out,
+                    sizeof out).rounds != 7 ||
+           mend(LUFFA_384, NULL, 0, 0, marks, LUFFA_MARKS_FOR(0)).wrong != 1;
 }

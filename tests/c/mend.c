@@ -85,7 +85,7 @@ static void unused_words(size_t code)
 
     for (size_t word = state_bytes[code] / 4; word < MARK; word++)
         for (size_t m = 0; m <= N / 4; m++)
-            for (int call = CHANGE; call <= BATCH; call++) {
+            for (int call = CHANGE; call <= CLOSE_UP; call++) {
                 built_sheet(&s, code, N, 1);
                 spoil(m, word, 1u << word % 32);
                 s.place = N - 1;
@@ -98,7 +98,7 @@ static void unused_words(size_t code)
 /* A false last mark makes every save stale. Once it is mended, the digest that build gave is the claim again. */
 static void saves(size_t code, size_t n)
 {
-    for (int call = CHANGE; call <= BATCH; call++) {
+    for (int call = CHANGE; call <= CLOSE_UP; call++) {
         built_sheet(&built, code, n, 1);
         s = built;
         spoil(n / 4, 0, 1);

@@ -1,13 +1,16 @@
 /* The check of content on a small sheet, sound as it is: each rule just kept, broken alone, and broken
-   beside others; what isn't looked at; a full sheet; and the refusals. */
+   beside others, also among struck records; what isn't looked at; struck wells; a full sheet; and the
+   refusals. */
 #include "test.h"
 
 static uint8_t sheet[RECORD * ROOM_FOR];
 
-static void answers(uint64_t rule, uint64_t place)
+static void answers_of(size_t n, uint64_t rule, uint64_t place)
 {
-    plan_call((struct luffa_content_answer){LUFFA_DONE, rule, place}, sheet, RECORD * WELLS, WELLS);
+    plan_call((struct luffa_content_answer){LUFFA_DONE, rule, place}, sheet, RECORD * n, n);
 }
+
+static void answers(uint64_t rule, uint64_t place) { answers_of(WELLS, rule, place); }
 
 static const struct {
     uint64_t rule, place;
@@ -99,6 +102,8 @@ static void small_sheet(void)
             put(sheet, e.place, e.at, e.bytes, e.value);
         }
         answers(examples[i].rule, examples[i].place);
+        put_among_struck(sheet, WELLS);
+        answers_of(AMONG_STRUCK(WELLS), examples[i].rule, 2 * examples[i].place + 1);
     }
 
     /* Each byte of an unused link, and of a note. */
@@ -132,6 +137,58 @@ static void small_sheet(void)
         put(sheet, 3, INJECTOR(0), 65535 ^ bit);
         answers(LUFFA_RULE_LINKS, 3);
     }
+}
+
+/* Every set of wells struck from the small sheet: what breaks a rule then is a link to one of them, by the first
+   producer that stands and has one. */
+static void struck_wells(void)
+{
+    static const struct {
+        size_t place;
+        unsigned injectors; /* the places of those that it links */
+    } producers[] = {{0, 1 << 1 | 1 << 4}, {3, 1 << 1 | 1 << 4 | 1 << 6 | 1 << 7}, {5, 1 << 6}};
+
+    for (unsigned set = 0; set < 1u << WELLS; set++) {
+        uint64_t rule = LUFFA_SOUND, place = 0;
+        sound_sheet(sheet);
+        for (size_t i = 0; i < WELLS; i++)
+            if (set >> i & 1)
+                memset(sheet + RECORD * i, 0, RECORD);
+        for (size_t k = COUNT_OF(producers); k-- > 0;)
+            if (!(set >> producers[k].place & 1) && (set & producers[k].injectors) != 0) {
+                rule = LUFFA_RULE_LINKS;
+                place = producers[k].place;
+            }
+        answers(rule, place);
+    }
+    /* Nobody repeats a struck well's number, and nobody can link the number 0. */
+    sound_sheet(sheet);
+    memset(sheet, 0, RECORD);
+    put(sheet, 2, NUMBER, 10);
+    answers(LUFFA_SOUND, 0);
+    put(sheet, 5, INJECTOR(0), 0);
+    answers(LUFFA_RULE_LINKS, 5);
+}
+
+/* Records without a well's bytes. With any bit set, if only in the note, a record isn't struck. */
+static void nearly_struck(void)
+{
+    enum { N = 5 };
+
+    memset(sheet, 0, sizeof sheet);
+    for (size_t n = 0; n <= N; n++)
+        answers_of(n, LUFFA_SOUND, 0);
+    answers_of(MOST - 1, LUFFA_SOUND, 0);
+    answers_of(MOST, LUFFA_SOUND, 0);
+    for (size_t place = 0; place < N; place++)
+        for (size_t bit = 0; bit < 8 * RECORD; bit++) {
+            put(sheet, place, bit / 8, 1, 1u << bit % 8);
+            answers_of(N, bit < 16 ? LUFFA_RULE_KIND : LUFFA_RULE_NUMBER, place);
+            put(sheet, place, bit / 8, 1, 0);
+        }
+    put(sheet, MOST - 1, LUFFA_WELL_NOTE, 1, 1);
+    answers_of(MOST, LUFFA_RULE_NUMBER, MOST - 1);
+    answers_of(MOST - 1, LUFFA_SOUND, 0);
 }
 
 /* Only the first n records of the buffer are the sheet; what lies behind is no well of it. */
@@ -208,6 +265,8 @@ static void refusals(void)
 int main(void)
 {
     small_sheet();
+    struck_wells();
+    nearly_struck();
     parts();
     full_sheet(MOST - 1);
     full_sheet(MOST);

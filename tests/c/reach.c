@@ -1,6 +1,6 @@
 /* Who depends on a well: plants worked out by hand, every sheet of up to five wells, full sheets whose wells stand in a
-   line, on a torus and around one injector, wells behind the sheet, numbers that no well has, and each refusal, alone
-   and before those that come later. reach_call judges the marks, and that nothing else changes. */
+   line, on a torus and around one injector, struck records, wells behind the sheet, numbers that no well has, and each
+   refusal, alone and before those that come later. reach_call judges the marks, and that nothing else changes. */
 #include "test.h"
 
 enum { HOPS = LUFFA_HOPS_MOST, LINKS = LUFFA_LINKS_MOST, NEVER = 255 };
@@ -14,6 +14,27 @@ static void put_linked(size_t place, uint32_t kind, uint32_t number, const uint3
     for (uint32_t k = 0, share = 0; k < count; k++) {
         share = k + 1 < count ? LUFFA_SHARES_TOTAL / count : LUFFA_SHARES_TOTAL - k * share;
         add_link(sheet, place, links[k], share);
+    }
+}
+
+/* The same among struck records, where there is room for them: they aren't marked but have their bytes, and the number 0
+   is nobody's. */
+static void among_struck(size_t n, size_t well, const uint8_t *apart)
+{
+    static uint8_t struck[sizeof sheet];
+    size_t all = AMONG_STRUCK(n);
+
+    if (all > MOST)
+        return;
+    memcpy(struck, sheet, RECORD * n);
+    put_among_struck(struck, n);
+    for (size_t hops = 0; hops <= HOPS; hops++) {
+        uint8_t marks[MOST] = {0};
+        for (size_t p = 0; p < n; p++)
+            marks[2 * p + 1] = apart[p] <= hops;
+        reach_call(LUFFA_DONE, &(struct search){struck, RECORD * all, all, well, hops, all}, marks);
+        reach_call(LUFFA_WELL, &(struct search){struck, RECORD * all, all, 0, hops, all}, NULL);
+        reach_call(LUFFA_REACH, &(struct search){struck, RECORD * all, all, well, hops, all - 1}, NULL);
     }
 }
 
@@ -32,6 +53,7 @@ static void from(size_t n, size_t well, const uint8_t *apart)
             marks[p] = apart[p] <= hops;
         reach_call(LUFFA_DONE, &s, marks);
     }
+    among_struck(n, well, apart);
 }
 
 static void refused(uint32_t want, size_t n, size_t well, size_t hops)
@@ -228,6 +250,39 @@ static void full_sheets(void)
     refused(LUFFA_SHEET, MOST + 1, 1, HOPS);
 }
 
+/* ---- Struck wells. */
+
+static void struck_wells(void)
+{
+    /* Without producer 12 of the small sheet nobody joins the others. */
+    static const uint8_t apart[WELLS] = {0, 1, NEVER, NEVER, 1, NEVER, NEVER, NEVER, NEVER};
+
+    sound_sheet(sheet);
+    memset(sheet + RECORD * 3, 0, RECORD);
+    from(WELLS, 10, apart);
+    refused(LUFFA_WELL, WELLS, 12, HOPS);
+    /* Injector 22 is linked still. */
+    memset(sheet + RECORD * 6, 0, RECORD);
+    refused(LUFFA_UNSOUND, WELLS, 10, 0);
+    /* A full sheet of them has no well; one bit in the last makes it unsound. */
+    memset(sheet, 0, sizeof sheet);
+    for (size_t well = 0; well <= 1; well++)
+        for (size_t hops = 0; hops <= HOPS; hops++)
+            refused(LUFFA_WELL, MOST, well, hops);
+    for (size_t at = 0; at < RECORD; at++) {
+        put(sheet, MOST - 1, at, 1, 0x10);
+        refused(LUFFA_UNSOUND, MOST, 0, HOPS);
+        put(sheet, MOST - 1, at, 1, 0);
+    }
+    /* The only well among them. */
+    put_well(sheet, 500, LUFFA_INJECTOR, 1, 0);
+    uint8_t marks[MOST];
+    memset(marks, NEVER, sizeof marks);
+    marks[500] = 0;
+    from(MOST, 1, marks);
+    refused(LUFFA_WELL, MOST, 0, HOPS);
+}
+
 /* ---- What lies behind the n-th record is no well of the sheet, whoever it links. */
 
 static void parts(void)
@@ -361,6 +416,7 @@ int main(void)
     for (size_t n = 1; n <= SMALL; n++)
         small_sheets(n);
     full_sheets();
+    struck_wells();
     parts();
     sets();
     no_records();

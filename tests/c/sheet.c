@@ -150,6 +150,7 @@ static void one_bit(size_t code, size_t n)
     for (size_t bit = 0; bit < 8 * digest_bytes[code]; bit++) {
         s.claim[bit / 8] ^= (uint8_t)(1 << bit % 8);
         sheet_call(LUFFA_STALE, APPEND, &s);
+        sheet_call(LUFFA_STALE, CLOSE_UP, &s);
         if (n > 0) {
             sheet_call(LUFFA_STALE, CHANGE, &s);
             sheet_call(LUFFA_STALE, DROP, &s);
@@ -163,9 +164,12 @@ static void one_bit(size_t code, size_t n)
    zero in one that is. */
 static void unused_words(size_t code, size_t n)
 {
-    for (int call = BUILD; call <= BATCH; call++)
+    for (int call = BUILD; call <= CLOSE_UP; call++)
         for (size_t place = 0; place < n; place += 3) {
-            built_sheet(&s, code, n, 1);
+            any_sheet(&s, code, n, 1);
+            if (call == CLOSE_UP)
+                strike(&s, place);
+            sheet_call(LUFFA_DONE, BUILD, &s);
             for (size_t m = 0; m <= n / 4; m++)
                 fill((uint8_t *)(s.marks + MARK * m) + state_bytes[code], 4 * MARK - state_bytes[code]);
             s.place = place;

@@ -16,9 +16,11 @@ static void put_right(void)
 
 static const size_t unknown[] = {0, 5, 256 + 2, ((size_t)1 << 32) + 4, (size_t)1 << 63, SIZE_MAX};
 
-/* All of them in the order in which they are judged; only a batch has 14, and only calls with own marks 15 and 16. */
-static const uint64_t order[] = {LUFFA_WIDTH, LUFFA_OUT,  LUFFA_SHEET, LUFFA_MARKS, LUFFA_SET,   LUFFA_PLACE,
-                                 LUFFA_FULL,  LUFFA_SIZE, LUFFA_CLAIM, LUFFA_OWN,   LUFFA_STALE, LUFFA_STALE_TAIL};
+/* All of them in the order in which they are judged; only a batch has 14, only a close up 23, and only calls with own
+   marks 15 and 16. */
+static const uint64_t order[] = {LUFFA_WIDTH,  LUFFA_OUT,   LUFFA_SHEET,     LUFFA_MARKS, LUFFA_SET,
+                                 LUFFA_PLACES, LUFFA_PLACE, LUFFA_FULL,      LUFFA_SIZE,  LUFFA_CLAIM,
+                                 LUFFA_OWN,    LUFFA_STALE, LUFFA_STALE_TAIL};
 
 /* Places after the last record, from n on; among them such as are before it once they are cut. */
 static const size_t beyond[] = {
@@ -60,6 +62,9 @@ static size_t ways(enum call call, uint64_t number)
         return 3;
     case LUFFA_SET:
         return COUNT_OF(crowds) + COUNT_OF(no_rise) + 2;
+    case LUFFA_PLACES:
+        /* No list is too short for no records. */
+        return built.n < 3 ? built.n : 3;
     case LUFFA_PLACE:
         return plain(call) == DROP ? 0 : COUNT_OF(beyond);
     case LUFFA_FULL:
@@ -144,6 +149,7 @@ static void spoil(enum call call, uint64_t number, size_t way)
             s.n = MOST + 1;
             s.sheet_len = sizeof s.sheet;
             s.marks_len = COUNT_OF(s.marks);
+            s.old_len = COUNT_OF(s.old);
         } else {
             s.sheet_len = way == COUNT_OF(too_many) + 1 ? RECORD * n - 1 : 0;
         }
@@ -153,6 +159,9 @@ static void spoil(enum call call, uint64_t number, size_t way)
         break;
     case LUFFA_SET:
         spoil_set(way);
+        break;
+    case LUFFA_PLACES:
+        s.old_len = way == 0 ? n - 1 : way == 1 ? 0 : n / 2;
         break;
     case LUFFA_PLACE:
         s.place = n + beyond[way];
@@ -188,12 +197,13 @@ static void spoil(enum call call, uint64_t number, size_t way)
 }
 
 /* Sets of refusals, as bits: those that a call has. */
-static const unsigned plain_has[5] = {
+static const unsigned plain_has[] = {
     [BUILD] = 1 << 1 | 1 << 2 | 1 << 5 | 1 << 6,
     [CHANGE] = 1 << 1 | 1 << 2 | 1 << 5 | 1 << 6 | 1 << 7 | 1 << 9 | 1 << 10 | 1 << 11,
     [APPEND] = 1 << 1 | 1 << 2 | 1 << 5 | 1 << 6 | 1 << 8 | 1 << 9 | 1 << 10 | 1 << 11,
     [DROP] = 1 << 1 | 1 << 2 | 1 << 5 | 1 << 6 | 1 << 7 | 1 << 10 | 1 << 11,
     [BATCH] = 1 << 1 | 1 << 2 | 1 << 5 | 1 << 6 | 1 << 14 | 1 << 7 | 1 << 9 | 1 << 10 | 1 << 11,
+    [CLOSE_UP] = 1 << 1 | 1 << 2 | 1 << 5 | 1 << 6 | 1 << 23 | 1 << 10 | 1 << 11,
 };
 
 static unsigned has(enum call call) { return plain_has[plain(call)] | (brings_own(call) ? 1 << 15 | 1 << 16 : 0); }
@@ -276,6 +286,14 @@ static void null_pointers(size_t code)
     check(luffa_sheet_batch(code, NULL, 0, 0, marks, MARK, NULL, 0, NULL, 0, digest, d, out, d).number == LUFFA_DONE &&
               memcmp(out, digest, d) == 0,
           "no changes of nothing");
+    check(luffa_sheet_close_up(0, NULL, 0, 0, NULL, 0, NULL, 0, NULL, 0, NULL, 0).number == LUFFA_WIDTH, "nothing");
+    check(luffa_sheet_close_up(code, record, RECORD, 1, marks, MARK, digest, d, NULL, 0, out, d).number == LUFFA_PLACES,
+          "no list");
+    check(luffa_sheet_close_up(code, NULL, 0, 0, marks, MARK, NULL, 0, NULL, 0, out, d).number == LUFFA_CLAIM,
+          "no records, no claim");
+    check(luffa_sheet_close_up(code, NULL, 0, 0, marks, MARK, digest, d, NULL, 0, out, d).number == LUFFA_DONE &&
+              memcmp(out, digest, d) == 0,
+          "a close up of nothing");
     check(luffa_sheet_change_own(0, NULL, 0, 0, NULL, 0, 0, NULL, 0, NULL, 0, 0, NULL, 0, NULL, 0).number ==
               LUFFA_WIDTH,
           "nothing");
@@ -304,7 +322,12 @@ int main(void)
 
     for (size_t code = 1; code <= 4; code++) {
         for (size_t i = 0; i < COUNT_OF(counts); i++) {
-            built_sheet(&built, code, counts[i], 1);
+            any_sheet(&built, code, counts[i], 1);
+            /* A close up that isn't refused would show. */
+            if (counts[i] > 0)
+                strike(&built, counts[i] / 2);
+            sheet_call(LUFFA_DONE, BUILD, &built);
+            open_own(&built);
             s = built;
             int in_turn = i % 4 + 1 == code;
             for (int call = BUILD; call <= DROP_OWN; call++)
@@ -314,6 +337,7 @@ int main(void)
             sheet_call(LUFFA_DONE, BATCH, &s);
             sheet_call(counts[i] < MOST ? LUFFA_DONE : LUFFA_FULL, APPEND, &s);
             sheet_call(LUFFA_DONE, DROP, &s);
+            sheet_call(LUFFA_DONE, CLOSE_UP, &s);
 
             /* The empty set is held to the same, for each count at one code. */
             if (!in_turn)

@@ -558,8 +558,8 @@ void by_hand(size_t code, const uint8_t *message, size_t bits, size_t words, uin
 
 /* ---- Sheets. */
 
-const char *const call_names[8] = {"build",      "change",     "append",  "drop", "batch",
-                                   "change_own", "append_own", "drop_own"};
+const char *const call_names[9] = {"build",    "change",     "append",     "drop",    "batch",
+                                   "close up", "change_own", "append_own", "drop_own"};
 
 int brings_own(enum call call) { return call >= CHANGE_OWN; }
 
@@ -589,6 +589,8 @@ void any_sheet(struct sheet *s, size_t code, size_t n, size_t more)
     fill(s->record, sizeof s->record);
     fill(s->claim, sizeof s->claim);
     fill(s->records, RECORD * CHANGES);
+    s->old_len = n + more;
+    fill((uint8_t *)s->old, sizeof *s->old * s->old_len);
     size_t count = n < 3 ? n : 3;
     batch_of(s, count, n / 4, count > 0 ? (n - n / 4) / count : 0);
 }
@@ -608,6 +610,8 @@ void built_sheet(struct sheet *s, size_t code, size_t n, size_t more)
     open_own(s);
 }
 
+void strike(struct sheet *s, size_t place) { memset(s->sheet + RECORD * place, 0, RECORD); }
+
 void open_own(struct sheet *s)
 {
     s->own_n = s->n;
@@ -615,20 +619,50 @@ void open_own(struct sheet *s)
     memcpy(s->own, s->marks, 4 * s->own_len);
 }
 
-/* Writes the true marks `from` to n / 4 of the sheet: the states of a record that is fed all of it. */
-static void true_marks(const struct sheet *s, size_t from, uint32_t *marks)
+/* Writes the marks `from` to n / 4 of the sheet: the states of a record that stands at mark m and is fed the rest. */
+static void fed_marks(const struct sheet *s, uint8_t *record, size_t m, size_t from, uint32_t *marks)
 {
-    uint8_t record[LUFFA_RECORD_BYTES];
-
-    luffa_start(s->code, record, sizeof record);
-    for (size_t m = 0; m <= s->n / 4; m++) {
+    for (; m <= s->n / 4; m++) {
         for (size_t k = 0; m >= from && k < MARK; k++) {
             const uint8_t *word = record + STATE + 4 * k;
             marks[MARK * m + k] = (uint32_t)word[0] << 24 | (uint32_t)word[1] << 16 | (uint32_t)word[2] << 8 | word[3];
         }
         if (m < s->n / 4)
-            luffa_feed(record, sizeof record, s->sheet + 4 * RECORD * m, 4 * RECORD);
+            luffa_feed(record, LUFFA_RECORD_BYTES, s->sheet + 4 * RECORD * m, 4 * RECORD);
     }
+}
+
+/* The true ones. */
+static void true_marks(const struct sheet *s, size_t from, uint32_t *marks)
+{
+    uint8_t record[LUFFA_RECORD_BYTES];
+
+    luffa_start(s->code, record, sizeof record);
+    fed_marks(s, record, 0, from, marks);
+}
+
+/* A record with the words of mark m as it is found. */
+static void at_mark(const struct sheet *s, size_t m, uint8_t *record)
+{
+    memset(record, 0, LUFFA_RECORD_BYTES);
+    record[0] = (uint8_t)s->code;
+    for (size_t i = 0; i < state_bytes[s->code]; i++)
+        record[STATE + i] = (uint8_t)(s->marks[MARK * m + i / 4] >> (24 - 8 * (i % 4)));
+}
+
+void falsify(struct sheet *s, unsigned set)
+{
+    for (size_t m = 0; set >> m != 0; m++)
+        if (set >> m & 1)
+            fill((uint8_t *)(s->marks + MARK * m), 4 * MARK);
+}
+
+void marks_from(struct sheet *s, size_t m)
+{
+    uint8_t record[LUFFA_RECORD_BYTES];
+
+    at_mark(s, m, record);
+    fed_marks(s, record, m, m + 1, s->marks);
 }
 
 uint64_t rounds_from(const struct sheet *s, size_t m)
@@ -638,16 +672,35 @@ uint64_t rounds_from(const struct sheet *s, size_t m)
 
 void from_mark(const struct sheet *s, size_t m, size_t n, uint8_t *digest)
 {
-    uint8_t record[LUFFA_RECORD_BYTES] = {(uint8_t)s->code};
+    uint8_t record[LUFFA_RECORD_BYTES];
 
-    for (size_t i = 0; i < state_bytes[s->code]; i++)
-        record[STATE + i] = (uint8_t)(s->marks[MARK * m + i / 4] >> (24 - 8 * (i % 4)));
+    at_mark(s, m, record);
     feed_call(LUFFA_DONE, record, sizeof record, s->sheet + 4 * RECORD * m, RECORD * (n - 4 * m));
     finish_call(LUFFA_DONE, record, sizeof record, LUFFA_512_BYTES, digest);
 }
 
 /* The empty set is checked, and no more. */
 static int only_checks(enum call call, const struct sheet *s) { return call == BATCH && s->places_len == 0; }
+
+size_t closed_up(struct sheet *s)
+{
+    static const uint8_t struck[RECORD];
+    size_t n = s->n, first = n;
+
+    s->n = 0;
+    for (size_t place = 0; place < n; place++) {
+        const uint8_t *record = s->sheet + RECORD * place;
+        if (memcmp(record, struck, RECORD) == 0) {
+            first = place < first ? place : first;
+            continue;
+        }
+        memmove(s->sheet + RECORD * s->n, record, RECORD);
+        s->old[s->n++] = (uint16_t)place;
+    }
+    memset(s->sheet + RECORD * s->n, 0, RECORD * (n - s->n));
+    memset(s->marks + LUFFA_MARKS_FOR(s->n), 0, 4 * (LUFFA_MARKS_FOR(n) - LUFFA_MARKS_FOR(s->n)));
+    return first / 4;
+}
 
 /* What the call must leave of the sheet where it is done, and the answer. */
 static struct luffa_sheet_where expected(enum call call, struct sheet *s)
@@ -683,6 +736,10 @@ static struct luffa_sheet_where expected(enum call call, struct sheet *s)
         from = only_checks(call, s) ? q : s->places[0] / 4;
         written = from + 1;
         break;
+    case CLOSE_UP:
+        from = closed_up(s);
+        written = from + 1;
+        break;
     }
     true_marks(s, written, s->marks);
     luffa_digest(s->code, s->sheet, RECORD * s->n, s->out, digest_bytes[s->code]);
@@ -708,12 +765,23 @@ static struct luffa_sheet_where stale(uint64_t want, enum call call, const struc
 }
 
 /* What the sheet calls are lent. */
-static struct lent in_sheet, in_marks, in_record, in_places, in_records, in_claim, in_own, in_out;
+static struct lent in_sheet, in_marks, in_record, in_places, in_records, in_claim, in_own, in_old, in_out;
 
 static void protect_sheet(int protection)
 {
     protect(in_sheet.room, in_sheet.size, protection);
     protect(in_marks.room, in_marks.size, protection);
+}
+
+/* The list that only a close up is lent. Where it is done, what lies behind n entries is hidden in every other call. */
+static uint16_t *lend_list(uint64_t want, enum call call, const struct sheet *s)
+{
+    const uint8_t *list = (const uint8_t *)s->old;
+    size_t entries = call == CLOSE_UP ? s->old_len : 0;
+    int hidden = want == LUFFA_DONE && entries > s->n && any_byte() % 2 == 0;
+
+    return hidden ? (void *)lend_last(&in_old, list, sizeof *s->old * s->n)
+                  : (void *)lend_aligned(&in_old, list, sizeof *s->old * entries, sizeof *s->old);
 }
 
 /* The answer of a call without own marks. */
@@ -722,8 +790,8 @@ static struct luffa_sheet_where nowhere(struct luffa_sheet_answer got)
     return (struct luffa_sheet_where){.number = got.number, .count = got.count, .rounds = got.rounds};
 }
 
-/* Where nothing is to be written, sheet and marks can't be: always if the call is done, and in one of 32 refusals, as
-   valgrind takes its time over pages. Own marks can't be in one of 32 calls that bring them. */
+/* Where nothing is to be written, sheet and marks can't be, nor the list: always if the call is done, and in one of 32
+   refusals, as valgrind takes its time over pages. Own marks can't be in one of 32 calls that bring them. */
 static struct luffa_sheet_where lent_call(uint64_t want, enum call call, const struct sheet *s)
 {
     int sealed = want == LUFFA_DONE ? only_checks(call, s) : any_byte() % 32 == 0;
@@ -734,11 +802,14 @@ static struct luffa_sheet_where lent_call(uint64_t want, enum call call, const s
     uint8_t *records = lend(&in_records, s->records, s->records_len);
     uint32_t *own = brings_own(call) ? lend_words(&in_own, s->own, s->own_len, s->own_hidden)
                                      : lend_words(&in_own, s->own, 0, 0);
+    uint16_t *old = lend_list(want, call, s);
     uint8_t *claim = lend(&in_claim, s->claim, s->claim_len), *out = lend(&in_out, NULL, s->out_len);
     struct luffa_sheet_where got = {0};
 
-    if (sealed)
+    if (sealed) {
         protect_sheet(PROT_READ);
+        protect(in_old.room, in_old.size, PROT_READ);
+    }
     if (own_sealed)
         protect(in_own.room, in_own.size, PROT_READ);
     switch (call) {
@@ -761,6 +832,10 @@ static struct luffa_sheet_where lent_call(uint64_t want, enum call call, const s
         got = nowhere(luffa_sheet_batch(s->code, sheet, s->sheet_len, s->n, marks, s->marks_len, places, s->places_len,
                                         records, s->records_len, claim, s->claim_len, out, s->out_len));
         break;
+    case CLOSE_UP:
+        got = nowhere(luffa_sheet_close_up(s->code, sheet, s->sheet_len, s->n, marks, s->marks_len, claim, s->claim_len,
+                                           old, s->old_len, out, s->out_len));
+        break;
     case CHANGE_OWN:
         got = luffa_sheet_change_own(s->code, sheet, s->sheet_len, s->n, marks, s->marks_len, s->place, record,
                                      s->record_len, claim, s->claim_len, s->own_n, own, s->own_len, out, s->out_len);
@@ -774,8 +849,10 @@ static struct luffa_sheet_where lent_call(uint64_t want, enum call call, const s
                                    s->own_n, own, s->own_len, out, s->out_len);
         break;
     }
-    if (sealed)
+    if (sealed) {
         protect_sheet(PROT_READ | PROT_WRITE);
+        protect(in_old.room, in_old.size, PROT_READ | PROT_WRITE);
+    }
     if (own_sealed)
         protect(in_own.room, in_own.size, PROT_READ | PROT_WRITE);
     return got;
@@ -791,6 +868,7 @@ static void judge(struct luffa_sheet_where got, struct luffa_sheet_where wanted,
     const char *wrong = memcmp(&got, &wanted, sizeof got) != 0       ? "wrong answer"
                         : !left(&in_sheet, s->sheet)                 ? "wrong sheet"
                         : !left(&in_marks, s->marks)                 ? "wrong marks"
+                        : !left(&in_old, s->old)                     ? "wrong list"
                         : !read_only || !kept(&in_out, written)      ? "wrote outside the digest"
                         : memcmp(in_out.bytes, s->out, written) != 0 ? "wrong digest"
                                                                      : NULL;
@@ -938,6 +1016,15 @@ const struct edit faults[8] = {
     {2, NUMBER, 0}, {2, KIND, 3}, {2, RATE, 1}, {4, RATE, 100001}, {0, INJECTOR(1), 23}, {5, SHARE(0), 999},
     {8, SHARE(3), 1}, {2, NUMBER, 10},
 };
+
+void put_among_struck(uint8_t *sheet, size_t n)
+{
+    memset(sheet + RECORD * 2 * n, 0, RECORD);
+    for (size_t place = n; place-- > 0;) {
+        memmove(sheet + RECORD * (2 * place + 1), sheet + RECORD * place, RECORD);
+        memset(sheet + RECORD * 2 * place, 0, RECORD);
+    }
+}
 
 void plan_call(struct luffa_content_answer want, const uint8_t *sheet, size_t sheet_len, size_t n)
 {

@@ -101,8 +101,8 @@ void by_hand(size_t code, const uint8_t *message, size_t bits, size_t words, uin
 
 /* ---- Sheets. */
 
-enum call { BUILD, CHANGE, APPEND, DROP, BATCH, CHANGE_OWN, APPEND_OWN, DROP_OWN };
-extern const char *const call_names[8];
+enum call { BUILD, CHANGE, APPEND, DROP, BATCH, CLOSE_UP, CHANGE_OWN, APPEND_OWN, DROP_OWN };
+extern const char *const call_names[9];
 
 /* Whether a call brings own marks, and the same call without. */
 int brings_own(enum call call);
@@ -117,22 +117,23 @@ enum { CHANGES = LUFFA_CHANGES_MOST, PLACES = 264 };
    such as need few bytes or words once the product is cut to 64. */
 extern const size_t too_many[15];
 
-/* A sheet, and all that a call on it is given: a change its place and record, a batch its places and records, and with
-   `_own` the planner's own count and marks. Of marks and of own so many words at the end are hidden: they are lent,
-   but nobody may touch them. */
+/* A sheet, and all that a call on it is given: a change its place and record, a batch its places and records, a close
+   up the list that gets the old places, and with `_own` the planner's own count and marks. Of marks and of own so many
+   words at the end are hidden: they are lent, but nobody may touch them. */
 struct sheet {
     size_t code, n, place, own_n;
-    size_t sheet_len, marks_len, record_len, claim_len, out_len, own_len;
+    size_t sheet_len, marks_len, record_len, claim_len, out_len, own_len, old_len;
     size_t marks_hidden, own_hidden;
     size_t places_len, records_len, places[PLACES];
     uint8_t sheet[RECORD * ROOM_FOR];
     uint32_t marks[LUFFA_MARKS_FOR(ROOM_FOR)], own[LUFFA_MARKS_FOR(ROOM_FOR)];
     uint8_t record[100], claim[100], out[200], records[RECORD * PLACES];
+    uint16_t old[ROOM_FOR];
 };
 
 /* n records of any bytes, with room for `more`, and no byte or word beyond that is lent. The marks
-   are any words; the record is any, and the output buffer has a few bytes too many. The batch is of
-   three changes, or as many as there are records. No own marks are lent. */
+   are any words, as are the entries of the list; the record is any, and the output buffer has a few
+   bytes too many. The batch is of three changes, or as many as there are records. No own marks are lent. */
 void any_sheet(struct sheet *s, size_t code, size_t n, size_t more);
 
 /* A batch of so many changes, the first at this place and each so many places after the one before, with
@@ -141,6 +142,9 @@ void batch_of(struct sheet *s, size_t count, size_t first, size_t step);
 
 /* The same, built, the digest claimed, and opened. */
 void built_sheet(struct sheet *s, size_t code, size_t n, size_t more);
+
+/* Strikes the record at a place. The marks are those from before, until they are built. */
+void strike(struct sheet *s, size_t place);
 
 /* The planner opens the sheet: its count and marks are now his own, in a buffer just long enough. */
 void open_own(struct sheet *s);
@@ -152,9 +156,20 @@ uint64_t rounds_from(const struct sheet *s, size_t m);
 /* The digest that the steps give over n records from mark m as it is found: of a record with its words. */
 void from_mark(const struct sheet *s, size_t m, size_t n, uint8_t *digest);
 
+/* Makes every mark of this set any words. */
+void falsify(struct sheet *s, unsigned set);
+
+/* Writes the marks after mark m that the steps give from it as it is found. */
+void marks_from(struct sheet *s, size_t m);
+
+/* What a close up must leave of records, count and list, and of the marks past the new last one. Gives the mark that
+   its work starts from. */
+size_t closed_up(struct sheet *s);
+
 /* Makes a call on a sheet whose marks are true. Where done, everything is judged by luffa_digest and
    luffa_feed over the whole sheet, and by document 01's formulas for rounds; refused, nothing may
-   have changed. The empty set is saved where neither sheet nor marks can be written. Where a stale save
+   have changed. The empty set is saved where neither sheet nor marks can be written, and what the list of
+   a close up has behind n entries can't be touched in every other call. Where a stale save
    differs from the planner's own marks is judged over all that both sheets have. Then `s` is what the call
    left, with the new count, and the claim is the new digest. */
 struct luffa_sheet_answer sheet_call(uint64_t want, enum call call, struct sheet *s);
@@ -163,7 +178,7 @@ struct luffa_sheet_answer sheet_call(uint64_t want, enum call call, struct sheet
 struct luffa_sheet_where where_call(uint64_t want, enum call call, struct sheet *s);
 
 /* Makes a call on a sheet whatever its marks are: it must be done in so many rounds, and leave the sheet,
-   the marks and in out the digest that `after` has. */
+   the marks, the list and in out the digest that `after` has. */
 void found_call(uint64_t rounds, enum call call, const struct sheet *s, const struct sheet *after);
 
 /* Makes a call with own marks on a sheet whatever its marks are, and the same call without: both must be done, and
@@ -206,6 +221,10 @@ void sound_sheet(uint8_t *sheet);
 
 /* A fault of it for each rule, in their order. All of them leave something sent. */
 extern const struct edit faults[8];
+
+/* Puts a struck record before each of n records and one after the last, so that the one at place p stands at 2p + 1. */
+#define AMONG_STRUCK(n) (2 * (n) + 1)
+void put_among_struck(uint8_t *sheet, size_t n);
 
 /* The check of what the first n records mean, which writes nothing. */
 void plan_call(struct luffa_content_answer want, const uint8_t *sheet, size_t sheet_len, size_t n);

@@ -41,6 +41,13 @@ static void wide_places(const struct sheet *s, uint8_t *sheet, uint32_t *marks, 
               "batch at %zu and %zu at code %zu", batches[i].places[0], batches[i].places[1], s->code);
 }
 
+/* Whether wide buffers hold this sheet with its marks and its digest, and zeros from there on. */
+static int as(const struct sheet *s, const uint8_t *sheet, const uint32_t *marks, const uint8_t *out)
+{
+    return memcmp(marks, s->marks, 4 * s->marks_len) == 0 && marks[s->marks_len] == 0 && marks[WIDE] == 0 &&
+           holds(sheet, s->sheet, s->sheet_len) && holds(out, s->claim, digest_bytes[s->code]);
+}
+
 /* A sheet of five records in wide buffers, and with each length in turn made wide that must not be. */
 static void sheets(uint8_t *sheet, uint32_t *marks, uint8_t *out, size_t code)
 {
@@ -51,8 +58,7 @@ static void sheets(uint8_t *sheet, uint32_t *marks, uint8_t *out, size_t code)
     built_sheet(&s, code, n, 0);
     memcpy(sheet, s.sheet, RECORD * n);
     check(luffa_sheet_build(code, sheet, WIDE, n, marks, WIDE, out, WIDE).number == LUFFA_DONE &&
-              memcmp(marks, s.marks, 4 * s.marks_len) == 0 && marks[s.marks_len] == 0 && marks[WIDE] == 0 &&
-              holds(sheet, s.sheet, RECORD * n) && holds(out, s.claim, d),
+              as(&s, sheet, marks, out),
           "build in wide buffers at code %zu", code);
     memset(out, 0, d);
     check(luffa_sheet_build(code, sheet, WIDE, WIDE + n, marks, WIDE, out, WIDE).number == LUFFA_SHEET &&
@@ -108,14 +114,18 @@ static void sheets(uint8_t *sheet, uint32_t *marks, uint8_t *out, size_t code)
     check(luffa_sheet_drop(code, sheet, WIDE, n + 1, marks, WIDE, held, d, out, WIDE).count == n &&
               holds(sheet, s.sheet, RECORD * n) && holds(out, s.claim, d),
           "drop in wide buffers at code %zu", code);
+    /* One of the changes strikes a record, and the close up takes it away. */
+    memset(s.records, 0, RECORD);
     check(luffa_sheet_batch(code, sheet, WIDE, n, marks, WIDE, s.places, s.places_len, s.records, s.records_len,
                             s.claim, d, out, WIDE)
                   .count == n,
           "batch in wide buffers at code %zu", code);
     sheet_call(LUFFA_DONE, BATCH, &s);
-    check(memcmp(marks, s.marks, 4 * s.marks_len) == 0 && marks[s.marks_len] == 0 && marks[WIDE] == 0 &&
-              holds(sheet, s.sheet, RECORD * n) && holds(out, s.claim, d),
-          "batch in wide buffers at code %zu: another sheet", code);
+    check(as(&s, sheet, marks, out), "batch in wide buffers at code %zu: another sheet", code);
+    check(luffa_sheet_close_up(code, sheet, WIDE, n, marks, WIDE, s.claim, d, s.old, n, out, WIDE).count == n - 1,
+          "close up in wide buffers at code %zu", code);
+    sheet_call(LUFFA_DONE, CLOSE_UP, &s);
+    check(as(&s, sheet, marks, out), "close up in wide buffers at code %zu: another sheet", code);
     memset(sheet, 0, RECORD * n);
     memset(marks, 0, 4 * s.marks_len);
     memset(out, 0, d);
@@ -194,6 +204,52 @@ static void batches(void)
                   "a batch of 2^32 + %zu changes at code %zu", counts[i] - WIDE, code);
     }
     munmap(places, bytes);
+}
+
+/* A list of as many entries as would be too few once they are cut; and a wide code, count or claim, by which the struck
+   record stays. */
+static void close_ups(void)
+{
+    enum { N = 9, STRUCK = 2 };
+    static struct sheet s, copy;
+    size_t bytes = 2 * WIDE + 65536;
+    uint16_t *places = (void *)map(bytes);
+    uint8_t *claim = map(WIDE + 65536);
+    const struct {
+        size_t code, n, claim_len;
+        uint64_t number;
+    } wide[] = {
+        {WIDE, 0, 0, LUFFA_WIDTH},
+        {0, WIDE, 0, LUFFA_SHEET},
+        {0, WIDE << 29, 0, LUFFA_SHEET},
+        {0, 0, WIDE, LUFFA_CLAIM},
+    };
+
+    for (size_t code = 1; code <= 4; code++) {
+        any_sheet(&s, code, N, 0);
+        strike(&s, STRUCK);
+        sheet_call(LUFFA_DONE, BUILD, &s);
+        memcpy(claim, s.claim, sizeof s.claim);
+        for (size_t i = 0; i < COUNT_OF(wide); i++) {
+            copy = s;
+            check(luffa_sheet_close_up(wide[i].code + code, s.sheet, s.sheet_len, wide[i].n + N, s.marks, s.marks_len,
+                                       claim, wide[i].claim_len + s.claim_len, places, WIDE, s.out, s.out_len)
+                              .number == wide[i].number &&
+                      memcmp(&s, &copy, sizeof s) == 0 && places[0] == 0 && places[1] == 0,
+                  "close up with a wide number at code %zu: not refused %u", code, (unsigned)wide[i].number);
+        }
+        for (size_t more = 0; more < N; more++) {
+            copy = s;
+            check(luffa_sheet_close_up(code, copy.sheet, copy.sheet_len, N, copy.marks, copy.marks_len, s.claim,
+                                       s.claim_len, places, WIDE + more, copy.out, copy.out_len)
+                              .count == N - 1 &&
+                      places[STRUCK] == STRUCK + 1 && places[N - 2] == N - 1 && places[N - 1] == 0 && places[WIDE] == 0,
+                  "close up with a list of 2^32 + %zu entries at code %zu", more, code);
+            memset(places, 0, 2 * N);
+        }
+    }
+    munmap(places, bytes);
+    munmap(claim, WIDE + 65536);
 }
 
 /* The three saves with these own marks answer the same and leave the sheet as it is. */
@@ -304,6 +360,7 @@ int main(void)
     brine(mapped);
     reach(mapped, out);
     batches();
+    close_ups();
     owns();
     uint32_t *marks = (void *)map(4 * WIDE + 65536);
     for (size_t code = 1; code <= 4; code++) {
