@@ -72,6 +72,11 @@ void mends(const uint8_t *message);
 
 void changes(const uint8_t *message);
 
+/* -- Closing up struck records (close.c) -- */
+
+int check_close_ups(const uint8_t *message);
+void close_ups(const uint8_t *message);
+
 /* -- Saves with own marks (own.c) -- */
 
 int check_owns(const uint8_t *message);

@@ -1,8 +1,10 @@
-/* Makes calls on one sheet in turn, for bench/mending, bench/where and bench/reaching to count what they take: `sheets CODE RECORDS CALL..`, where a
-   call is `build`; `true`, a mend of marks that are true, or `wrong`, one of marks that are all wrong; `open`, which copies the marks and the digest of
-   a build; `change` at the last place, `own`, the same with own marks, or `stale`, that is told the last group; `wells`, which makes as many of them,
-   `first` or `fourth`, by which this link of every producer names the first injector, `check` of their content, or `reach`, a search from the place
-   that was named last, by its number alone, or from 0. */
+/* Makes calls on one sheet in turn, for bench/mending, bench/where, bench/closing and bench/reaching to count what they take: `sheets CODE RECORDS
+   CALL..`, where a call is `build`; `true`, a mend of marks that are true, or `wrong`, one of marks that are all wrong; `open`, which copies the
+   marks and the digest of a build; `change` at the last place, `own`, the same with own marks, or `stale`, that is told the last group; `none`,
+   `half` or `all`, which strikes no record, every second of the first half, or each, `lowest`, a change at the first place, or `close`, a close
+   up; `wells`, which makes as many of them, `first` or `fourth`, by which this link of every producer names the first injector, `check` of their
+   content, or `reach`, a search from the place that was named last, by its number alone, or from 0. */
+#include "close.h"
 #include "mend.h"
 #include "own.h"
 #include "wells.h"
@@ -16,6 +18,18 @@ static uint32_t open_own(struct job *job)
     memcpy(job->sheet->own, job->sheet->marks, sizeof job->sheet->own);
     return LUFFA_DONE;
 }
+
+/* The records are copied where none is struck too, so that all sheets take as much to make but for their zeros. */
+static uint32_t struck(struct job *job, size_t among, size_t step)
+{
+    job->message = strike(job->message, job->sheet->n, among, step);
+    memcpy(job->sheet->records, job->message, SHEET_RECORD * job->sheet->n);
+    return LUFFA_DONE;
+}
+
+static uint32_t no_record_struck(struct job *job) { return struck(job, 0, 1); }
+static uint32_t half_struck(struct job *job) { return struck(job, job->sheet->n / 2, 2); }
+static uint32_t all_struck(struct job *job) { return struck(job, job->sheet->n, 1); }
 
 static uint32_t open_wells(struct job *job)
 {
@@ -43,9 +57,11 @@ int main(int argc, char **argv)
     static const struct {
         const char *name;
         work *run;
-    } CALLS[] = {{"build", archive_build},        {"true", archive_mend_true},  {"wrong", archive_mend_wrong}, {"open", open_own},
-                 {"change", archive_change_last}, {"own", archive_change_own}, {"stale", archive_stale_own},   {"wells", open_wells},
-                 {"first", link_by_first},        {"fourth", link_by_fourth},  {"check", archive_plan_check},  {"reach", archive_plan_reach}};
+    } CALLS[] = {{"build", archive_build},        {"true", archive_mend_true}, {"wrong", archive_mend_wrong},    {"open", open_own},
+                 {"change", archive_change_last}, {"own", archive_change_own}, {"stale", archive_stale_own},     {"none", no_record_struck},
+                 {"half", half_struck},           {"all", all_struck},         {"lowest", archive_change_first}, {"close", archive_close_up_once},
+                 {"wells", open_wells},           {"first", link_by_first},    {"fourth", link_by_fourth},       {"check", archive_plan_check},
+                 {"reach", archive_plan_reach}};
     static uint8_t message[SHEET_RECORD * SHEET_MOST];
     static struct sheet sheet;
 

@@ -1,6 +1,7 @@
 /* The stack of each call. */
 #include "batch.h"
 #include "bench.h"
+#include "close.h"
 #include "mend.h"
 #include "output.h"
 #include "own.h"
@@ -77,8 +78,9 @@ static int stack_line(const char *name, size_t most, size_t bar)
     return most <= bar;
 }
 
-/* The most stack of each call over codes, lengths and bytes held in the record; of the sheet calls, over codes and numbers of records. A record
-   to finish has odd bits, one to feed can't. Longer output is of all words. Wells are searched for from an injector and from a producer. */
+/* The most stack of each call over codes, lengths and bytes held in the record; of the sheet calls, over codes and numbers of records, of which
+   every third is struck. A record to finish has odd bits, one to feed can't. Longer output is of all words. Wells are searched for from an
+   injector and from a producer. */
 int stacks(const uint8_t *message)
 {
     static const struct {
@@ -107,6 +109,7 @@ int stacks(const uint8_t *message)
         {"luffa_sheet_drop", archive_drop, 0},
         {"luffa_sheet_mend", archive_mend_wrong, 0},
         {"luffa_sheet_batch", archive_batch_64, 0},
+        {"luffa_sheet_close_up", archive_close_up, 0},
         {"luffa_sheet_change_own", both_changes_own, 0},
         {"luffa_sheet_append_own", both_appends_own, 0},
         {"luffa_sheet_drop_own", both_drops_own, 0},
@@ -144,7 +147,7 @@ int stacks(const uint8_t *message)
         size_t most = 0;
         for (size_t code = 1; code <= CODES; code++)
             for (size_t n = 0; n < COUNT(RECORDS); n++) {
-                struct job job = sheet_job(&sheet, code, message, RECORDS[n]);
+                struct job job = sheet_job(&sheet, code, strike(message, RECORDS[n], RECORDS[n], 3), RECORDS[n]);
                 size_t own = own_stack(SHEET_CALLS[i].run, &job);
                 most = own > most ? own : most;
             }
