@@ -97,6 +97,9 @@ pub enum Error {
     /// 22: there are fewer bytes than the sheet has records.
     /// [`plan::reach_into`](crate::plan::reach_into) alone gives it.
     Reach,
+    /// 23: a list has fewer places than the sheet has records.
+    /// [`Sheet::close_up_into`](crate::Sheet::close_up_into) alone gives it.
+    Places,
     /// 25: a list has fewer places than the batch has records.
     /// [`plan::brine_into`](crate::plan::brine_into) alone gives it.
     List,
@@ -127,6 +130,7 @@ impl Error {
             Error::Unsound => 20,
             Error::Well => 21,
             Error::Reach => 22,
+            Error::Places => 23,
             Error::List => 25,
         }
     }
@@ -211,6 +215,7 @@ impl Error {
             Error::Unsound,
             Error::Well,
             Error::Reach,
+            Error::Places,
             Error::List,
         ];
         match all.into_iter().find(|e| u64::from(e.number()) == number) {
@@ -252,6 +257,7 @@ impl fmt::Display for Error {
             Error::Unsound => "the sheet has a fault, which the check names",
             Error::Well => "no well of the sheet has this number",
             Error::Reach => "there are fewer bytes than the sheet has records",
+            Error::Places => "the list has fewer places than the sheet has records",
             Error::List => "a list has fewer places than the batch has records",
         })
     }

@@ -192,6 +192,20 @@ unsafe extern "C" {
         out: *mut u8,
         out_len: usize,
     ) -> Answer;
+    fn luffa_sheet_close_up(
+        code: usize,
+        sheet: *mut u8,
+        sheet_len: usize,
+        n: usize,
+        marks: *mut u32,
+        marks_len: usize,
+        claim: *const u8,
+        claim_len: usize,
+        places: *mut u16,
+        places_len: usize,
+        out: *mut u8,
+        out_len: usize,
+    ) -> Answer;
     fn luffa_sheet_change_own(
         code: usize,
         sheet: *mut u8,
@@ -508,6 +522,26 @@ pub fn drop_last(lent: &mut Lent, claim: &[u8], out: &mut [u8]) -> Answer {
             lent.marks.len(),
             claim.as_ptr(),
             claim.len(),
+            out.as_mut_ptr(),
+            out.len(),
+        )
+    }
+}
+
+pub fn close_up(lent: &mut Lent, claim: &[u8], places: &mut [u16], out: &mut [u8]) -> Answer {
+    // SAFETY: as in `drop_last`; `places` are written within their length, which is in elements.
+    unsafe {
+        luffa_sheet_close_up(
+            lent.code,
+            lent.sheet.as_mut_ptr(),
+            lent.sheet.len(),
+            lent.n,
+            lent.marks.as_mut_ptr(),
+            lent.marks.len(),
+            claim.as_ptr(),
+            claim.len(),
+            places.as_mut_ptr(),
+            places.len(),
             out.as_mut_ptr(),
             out.len(),
         )

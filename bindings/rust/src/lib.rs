@@ -52,7 +52,8 @@
 //! # Ok::<(), Error>(())
 //! ```
 //!
-//! [`Sheet::change_all`] saves many changes at once, all of them or none.
+//! [`Sheet::change_all`] saves many changes at once, all of them or none. [`Sheet::close_up`] takes away the
+//! records that were struck, and says where each of the others stood.
 //!
 //! A planner who keeps the whole of what was [`Opened`] is told which four records to look at:
 //!
@@ -97,7 +98,7 @@ pub use code::Code;
 pub use digest::{Digest, ParseDigestError};
 pub use error::Error;
 pub use hash::{Luffa224, Luffa256, Luffa384, Luffa512, OUTPUT_BYTES_MOST, RECORD_BYTES};
-pub use sheet::{Mended, Opened, Saved, Sheet};
+pub use sheet::{Mended, Moved, Opened, Saved, Sheet};
 
 /// The example in the README runs too.
 #[cfg(doctest)]

@@ -6,6 +6,7 @@ use crate::{Code, Digest, Error};
 use std::fmt;
 
 mod batch;
+mod close_up;
 #[cfg(test)]
 mod held;
 #[cfg(test)]
@@ -17,6 +18,7 @@ mod saves;
 #[cfg(test)]
 mod tests;
 
+pub use close_up::Moved;
 pub use mend::Mended;
 pub use opened::Opened;
 
@@ -228,8 +230,8 @@ impl Sheet {
         self.digest
     }
 
-    /// Whether the records are sound wells, or the lowest faulty place and the first rule broken there.
-    /// A sheet of no records is sound. A save never asks, and saves any 40 bytes.
+    /// Whether the records are sound wells or [struck](Sheet::STRUCK), or the lowest faulty place and the first
+    /// rule broken there. A sheet of no records is sound. A save never asks, and saves any 40 bytes.
     ///
     /// ```
     /// use luffa::plan::{Fault, Rule, Well};

@@ -1,7 +1,8 @@
 //! The refusals: luffa.h's numbers, document 01's each met from the library itself. Those of longer output
 //! are met in hash/output/tests.rs too, those of a mend in sheet/mend/refusals.rs, those of many changes in
-//! sheet/batch, those of a save that brings what was opened in sheet/opened, and those that a brine statement
-//! or a search for who depends on a well alone gives in plan/brine/refusals.rs and plan/reach.
+//! sheet/batch, those of a save that brings what was opened in sheet/opened, those of closing up in
+//! sheet/close_up, and those that a brine statement or a search for who depends on a well alone gives in
+//! plan/brine/refusals.rs and plan/reach.
 
 use super::Error;
 use crate::ffi::{self, Lent, WhereAnswer};
@@ -11,7 +12,7 @@ use crate::{Code, Digest, Luffa256, Opened, Sheet};
 fn numbers_and_sentences() {
     assert_eq!(Error::judge(0, 0), Ok(()));
     let mut sentences = Vec::new();
-    for number in (1..=15).chain([17]).chain(19..=22).chain([25]) {
+    for number in (1..=15).chain([17]).chain(19..=23).chain([25]) {
         let error = Error::judge(number, 5).unwrap_err();
         assert_eq!(u64::from(error.number()), number);
         let source: &dyn std::error::Error = &error;
@@ -20,7 +21,7 @@ fn numbers_and_sentences() {
     assert_eq!(Error::judge(11, 5), Err(Error::Stale { rounds: 5 }));
     sentences.sort();
     sentences.dedup();
-    assert_eq!(sentences.len(), 21);
+    assert_eq!(sentences.len(), 22);
 }
 
 /// A stale save that brings what was opened has the plain one's sentence, and where to look.
@@ -117,6 +118,8 @@ fn met_by_callers() {
     assert_eq!(sheet.drop_last(&stale), Err(Error::Stale { rounds }));
     let from = Opened::from_parts(claim, 1024, [0; 10_280]);
     assert_eq!(sheet.drop_last_from(&from), Err(Error::Own));
+    let few = sheet.close_up_into(&claim, &mut [0; 1023]);
+    assert_eq!(few, Err(Error::Places));
     // Where several hold, the lowest number is given.
     assert_eq!(sheet.change(1024, &new, &other), Err(Error::Place));
     assert_eq!(sheet.append(&new, &stale), Err(Error::Full));

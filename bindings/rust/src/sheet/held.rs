@@ -41,10 +41,23 @@ impl Held {
         call(&mut lent, &mut self.out)
     }
 
-    /// The digest that follows from the last mark, true or false: that of a hash in this state which is fed
-    /// the records after it.
+    /// The digest that follows from the last mark, true or false.
     pub fn digest(&self, code: Code) -> Digest {
-        let fed = 160 * (self.n / 4);
+        let record = self.fed_from(self.n / 4, self.n);
+        let (digest, done) = Digest::written(code, |out| ffi::finish(&record, out));
+        done.map(|()| digest).unwrap()
+    }
+
+    /// Mark m as it follows from the one before it, true or false.
+    pub fn mark(&self, m: usize) -> Vec<u32> {
+        let record = self.fed_from(m - 1, 4 * m);
+        let word = |bytes: &[u8]| u32::from_be_bytes(bytes.try_into().unwrap());
+        record[8..168].chunks(4).map(word).collect()
+    }
+
+    /// The record of a hash in the state of a mark, which was fed the records from there to a place.
+    fn fed_from(&self, mark: usize, end: usize) -> [u8; crate::RECORD_BYTES] {
+        let fed = 160 * mark;
         let words = [24, 24, 32, 40][self.code - 1];
         let mut record = [0; crate::RECORD_BYTES];
         record[0] = self.code as u8;
@@ -53,8 +66,7 @@ impl Held {
             bytes.copy_from_slice(&word.to_be_bytes());
         }
         record[200..].copy_from_slice(&(fed as u128).to_be_bytes());
-        ffi::feed(&mut record, &self.sheet[fed..40 * self.n]).unwrap();
-        let (digest, done) = Digest::written(code, |out| ffi::finish(&record, out));
-        done.map(|()| digest).unwrap()
+        ffi::feed(&mut record, &self.sheet[fed..40 * end]).unwrap();
+        record
     }
 }

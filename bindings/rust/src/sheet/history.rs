@@ -18,6 +18,7 @@ pub enum Save {
     Batch(Vec<(usize, [u8; 40])>),
     Append([u8; 40]),
     Drop,
+    CloseUp,
 }
 
 impl Plain {
@@ -37,6 +38,13 @@ impl Plain {
         let blocks = 40 * self.records.len() / 32 + 1;
         let last = if self.code.number() < 3 { 1 } else { 2 };
         (blocks - 5 * (place / 4) + last) as u64
+    }
+
+    /// The places of the records that aren't struck.
+    pub fn kept(&self) -> Vec<usize> {
+        let all = 0..self.records.len();
+        all.filter(|place| self.records[*place] != [0; 40])
+            .collect()
     }
 
     pub fn save(&mut self, save: &Save, claim: &Digest) -> Result<Saved, Error> {
@@ -74,6 +82,11 @@ impl Plain {
                 self.records.pop();
                 Some(n - 1)
             }
+            Save::CloseUp => {
+                let struck = self.records.iter().position(|record| *record == [0; 40]);
+                self.records.retain(|record| *record != [0; 40]);
+                Some(struck.unwrap_or(n))
+            }
         };
         Ok(Saved {
             digest: self.digest(),
@@ -87,10 +100,21 @@ fn is_set(changes: &[(usize, [u8; 40])]) -> bool {
     changes.len() <= 64 && changes.is_sorted_by(|one, next| one.0 < next.0)
 }
 
+/// Any record, or at times a struck one, or one that differs from it in a bit.
+pub fn any_record(numbers: &mut Numbers) -> [u8; 40] {
+    let mut record = [0; 40];
+    match numbers.below(8) {
+        0..2 => {}
+        2 => record[numbers.below(40)] = 1 << numbers.below(8),
+        _ => record = numbers.record(),
+    }
+    record
+}
+
 /// Up to so many changes, at rising places of n records.
 pub fn rising(numbers: &mut Numbers, n: usize, most: usize) -> Vec<(usize, [u8; 40])> {
     let places: BTreeSet<_> = (0..most.min(n)).map(|_| numbers.below(n)).collect();
-    let change = |place| (place, numbers.record());
+    let change = |place| (place, any_record(numbers));
     places.into_iter().map(change).collect()
 }
 
@@ -100,7 +124,7 @@ fn any_changes(numbers: &mut Numbers, n: usize) -> Vec<(usize, [u8; 40])> {
     let most = numbers.below(most + 1);
     let mut changes = rising(numbers, n, most);
     match numbers.below(8) {
-        0 => changes.push((n + numbers.below(3), numbers.record())),
+        0 => changes.push((n + numbers.below(3), any_record(numbers))),
         1 if !changes.is_empty() => changes.push(changes[numbers.below(changes.len())]),
         _ => {}
     }
@@ -109,10 +133,12 @@ fn any_changes(numbers: &mut Numbers, n: usize) -> Vec<(usize, [u8; 40])> {
 
 /// A save of any kind; near the ends of the sheet at times one that is refused.
 fn any_save(numbers: &mut Numbers, n: usize) -> Save {
-    match numbers.below(11) {
-        0..4 => Save::Change(numbers.below(n + 1 + n / 8), numbers.record()),
-        4..6 => Save::Append(numbers.record()),
+    // A long one is filled again after it was closed up.
+    match numbers.below(if n < 900 { 12 } else { 24 }) {
+        0..4 => Save::Change(numbers.below(n + 1 + n / 8), any_record(numbers)),
+        4..6 | 12.. => Save::Append(any_record(numbers)),
         6..8 => Save::Drop,
+        8 => Save::CloseUp,
         _ => Save::Batch(any_changes(numbers, n)),
     }
 }
@@ -155,6 +181,14 @@ fn random_saves() {
                 }
                 Save::Append(record) => ("append", sheet.append(record, &claim)),
                 Save::Drop => ("drop", sheet.drop_last(&claim)),
+                Save::CloseUp => {
+                    let closed = sheet.close_up(&claim);
+                    let saved = closed.map(|(saved, moved)| {
+                        assert!(moved.old_places().eq(plain.kept()), "save {k}");
+                        saved
+                    });
+                    ("close up", saved)
+                }
             };
             let wanted = plain.save(&save, &claim);
             assert_eq!(got, wanted, "{code:?}, from {start}: {name}, save {k}");
@@ -178,11 +212,11 @@ fn random_saves() {
         sheet.holds();
     }
     // Each save has been taken and refused in each way that it can be.
-    let all = [("append", 8), ("change", 7), ("drop", 7), ("batch", 7)]
-        .into_iter()
-        .flat_map(|(name, own)| [0, own, 10, 11].map(|number| (name, number)));
-    for kind in all.chain([("batch", 14)]) {
+    let own = [("append", 8), ("change", 7), ("drop", 7), ("batch", 7)];
+    let names = own.map(|(name, _)| name).into_iter().chain(["close up"]);
+    let all = names.flat_map(|name| [0, 10, 11].map(|number| (name, number)));
+    for kind in all.chain(own).chain([("batch", 14)]) {
         assert!(met.get(&kind).is_some_and(|&times| times > 5), "{kind:?}");
     }
-    assert_eq!(met.len(), 17);
+    assert_eq!(met.len(), 20);
 }

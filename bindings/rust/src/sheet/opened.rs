@@ -25,7 +25,7 @@ mod words;
 /// A save that brings it claims its digest. If somebody else has saved since, the answer isn't
 /// [`Error::Stale`], which sends the planner through the whole sheet. It is [`Error::StaleGroup`] with the
 /// first four records that differ, or [`Error::StaleTail`] if all marks agree that both sheets have;
-/// [`Error::places`] says where to look. Many changes in one save have no such form.
+/// [`Error::places`] says where to look. Many changes in one save have no such form, nor has closing up.
 ///
 /// It is taken by [`Sheet::opened`] beside what the planner sees, and again after each of his saves. It holds
 /// no records, and 160 bytes for the beginning and for each four of them.

@@ -6,7 +6,7 @@ use crate::{Code, Digest, Error, ffi};
 
 impl Sheet {
     /// What must hold after every call: the digest is that of the bytes, hashed afresh, the marks are
-    /// those that a build writes, and there is no more room than a sheet may take.
+    /// those that a build writes, and the room behind them is zeros, no more of it than a sheet may take.
     pub(super) fn holds(&self) {
         let (n, code) = (self.n, self.code);
         assert_eq!(self.digest, Digest::of(code, self.bytes()), "{n} records");
@@ -15,6 +15,8 @@ impl Sheet {
         assert_eq!((built.number, built.count), (0, n as u64));
         assert!(self.marks() == marks, "{n} records: marks");
         assert!(self.records.len() <= Sheet::MOST);
+        assert!(self.records[n..].iter().all(|room| *room == [0; 40]));
+        assert!(self.marks[marks.len()..].iter().all(|word| *word == 0));
     }
 }
 
@@ -143,6 +145,8 @@ fn two_planners() {
         assert_eq!(sheet.change_all([(2, [2; 40]), (9, [2; 40])], &ben), stale);
         assert_eq!(sheet.append(&[2; 40], &ben), stale);
         assert_eq!(sheet.drop_last(&ben), stale);
+        assert_eq!(sheet.strike(2, &ben), stale);
+        assert_eq!(sheet.close_up(&ben).map(|closed| closed.0), stale);
         assert_eq!(sheet, before);
         assert_eq!(sheet.digest(), anna);
         sheet.holds();
