@@ -34,8 +34,8 @@ fn main() -> Result<(), Box<dyn Error>> {
             continue;
         }
         for (record, row) in sheet.records().iter().zip(rows) {
-            let well = Well::from_record(record)?;
-            if well.kind() == Kind::Injector {
+            let well = Well::unless_struck(record)?;
+            if let Some(well) = well.filter(|well| well.kind() == Kind::Injector) {
                 print!("{number:>5}  {:>8}", well.number());
                 print!("  {:>16}  {:>15}", row.intake, row.spare);
                 let overloaded = row.is_overloaded().then_some("  overloaded");

@@ -1,5 +1,5 @@
-//! What the records of a sheet mean to the balancer: each is a well, and a check says whether all are
-//! sound. A save never asks.
+//! What the records of a sheet mean to the balancer: each is a well or [struck](crate::Sheet::STRUCK), and a
+//! check says whether all are sound. A save never asks.
 //!
 //! ```
 //! use luffa::plan::{Fault, Link, Rule, Well};
@@ -20,7 +20,8 @@
 //! ```
 //!
 //! What the injectors of up to 64 sheets are sent, and have to spare, is on one page: [`brine()`]. Who
-//! depends on a well, by the links that join them, [`reach()`] says.
+//! depends on a well, by the links that join them, [`reach()`] says. To all of them a struck record is no
+//! well, and its number, 0, nobody's.
 
 use crate::{Error, ffi, sheet};
 use std::fmt;
@@ -45,8 +46,9 @@ pub type Verdict = Result<(), Fault>;
 /// Whether the records that stand one after the other in these bytes are sound, or [`Error::Sheet`] if
 /// they are more than [`Sheet::MOST`](crate::Sheet::MOST) or the last isn't whole.
 ///
-/// No records are sound. Of a [`Sheet`](crate::Sheet) ask [`check`](crate::Sheet::check), which is
-/// never refused. The library takes some 17 KiB of stack for it.
+/// No records are sound, and so is a [struck](crate::Sheet::STRUCK) one, beside others too: it is exempt from
+/// every rule and repeats nobody's number. Of a [`Sheet`](crate::Sheet) ask [`check`](crate::Sheet::check),
+/// which is never refused. The library takes some 17 KiB of stack for it.
 ///
 /// ```
 /// use luffa::plan::{self, Fault, Rule, Well};
@@ -58,6 +60,9 @@ pub type Verdict = Result<(), Fault>;
 /// let repeat = Fault { place: 1, rule: Rule::Repeat };
 /// assert_eq!(plan::check(&bytes), Ok(Err(repeat)));
 /// assert_eq!(plan::check(&bytes[..79]), Err(Error::Sheet));
+///
+/// // Both wells are struck.
+/// assert_eq!(plan::check(&[0; 80]), Ok(Ok(())));
 /// ```
 pub fn check(bytes: &[u8]) -> Result<Verdict, Error> {
     let answer = ffi::plan_check(bytes, sheet::records_in(bytes));
@@ -96,7 +101,7 @@ impl fmt::Display for Fault {
 impl std::error::Error for Fault {}
 
 /// A rule that a record breaks, by the numbers of luffa.h. They are in the order in which a record is
-/// held to them.
+/// held to them, unless it is [struck](crate::Sheet::STRUCK).
 ///
 /// ```
 /// use luffa::plan::Rule;

@@ -13,9 +13,10 @@ mod tests;
 /// The brine statement over a batch of sheets: slices of bytes, or [`Sheet`](crate::Sheet)s.
 ///
 /// A faulted sheet has rows of zeros and counts in [`Totals::faulted`] alone; which fault it is,
-/// [`check`](super::check) says. Refused are more sheets than [`Page::SHEETS_MOST`], by
-/// [`Error::Batch`], and a sheet of more than [`Sheet::MOST`](crate::Sheet::MOST) records or whose
-/// last isn't whole, by [`Error::Sheet`].
+/// [`check`](super::check) says. A [struck](crate::Sheet::STRUCK) record has a row of zeros too, and its
+/// sheet may be sound. Refused are more sheets than [`Page::SHEETS_MOST`], by [`Error::Batch`], and a sheet
+/// of more than [`Sheet::MOST`](crate::Sheet::MOST) records or whose last isn't whole, by
+/// [`Error::Sheet`].
 ///
 /// The sheets are copied one after another, as the library wants them. [`brine_into`] takes them so,
 /// and allocates nothing.
@@ -119,8 +120,8 @@ pub fn brine_into(
 pub struct Page {
     /// What is said over the batch.
     pub totals: Totals,
-    /// A row for each record, by sheet and place, both counted from 0. Those of producers and of
-    /// faulted sheets are zeros.
+    /// A row for each record, by sheet and place, both counted from 0. Those of producers, of struck
+    /// records and of faulted sheets are zeros.
     pub rows: Vec<Vec<Row>>,
 }
 

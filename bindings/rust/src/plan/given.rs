@@ -1,26 +1,33 @@
-//! Random sheets of wells, one of which may be mistyped.
+//! Random sheets of wells, some of which are struck and one of which may be mistyped.
 
 use super::{Kind, Link, Well};
+use crate::Sheet;
 use crate::random::Numbers;
 
 /// A random sheet.
 pub(super) struct Given {
-    /// Sound wells.
-    pub wells: Vec<Well>,
+    /// Sound wells, and none where a record is struck.
+    pub wells: Vec<Option<Well>>,
     /// Where the kind of one is mistyped, if it is.
     pub fault: Option<usize>,
 }
 
 impl Given {
-    /// One of these wells is mistyped in a quarter of all sheets.
+    /// These wells, with up to eight struck records among them in half of all sheets. One record is mistyped in
+    /// a quarter, at times a struck one.
     pub fn any(numbers: &mut Numbers, wells: Vec<Well>) -> Given {
+        let mut wells: Vec<_> = wells.into_iter().map(Some).collect();
+        for _ in 0..numbers.below(2) * numbers.below(9) {
+            wells.insert(numbers.below(wells.len() + 1), None);
+        }
         let mistyped = !wells.is_empty() && numbers.below(4) == 0;
         let fault = mistyped.then(|| numbers.below(wells.len()));
         Given { wells, fault }
     }
 
     pub fn bytes(&self) -> Vec<u8> {
-        let mut records: Vec<_> = self.wells.iter().map(Well::to_record).collect();
+        let record = |well: &Option<Well>| well.map_or(Sheet::STRUCK, |well| well.to_record());
+        let mut records: Vec<_> = self.wells.iter().map(record).collect();
         if let Some(place) = self.fault {
             records[place][2] ^= 4;
         }

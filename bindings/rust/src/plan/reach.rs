@@ -19,7 +19,7 @@ mod tests;
 ///
 /// A link joins a producer and the injector that it names, both ways and whatever the share. The well
 /// itself is reached by no hop. More hops never lose a well, and one that is reached reaches this one in
-/// as many.
+/// as many. A [struck](Sheet::STRUCK) record is no well: it is never reached, and 0 is nobody's number.
 ///
 /// Refused: [`Error::Sheet`] if there are more than [`Sheet::MOST`] records or the last isn't whole,
 /// [`Error::Hops`] if `hops` is over [`Reached::HOPS_MOST`], [`Error::Unsound`] if the sheet has a

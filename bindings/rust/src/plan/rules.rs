@@ -1,9 +1,28 @@
-//! Each rule at its edges: a record that is sound or breaks it, held to the rules by the library.
+//! Each rule at its edges: a record that is sound or breaks it, held to the rules by the library. Struck records
+//! are held to none.
 
 use super::{Fault, Link, Rule, Verdict, Well, check};
+use crate::Sheet;
 
+/// What is said of these records. Among struck ones the same is said, of the place that the faulty one has there.
+#[track_caller]
 pub(super) fn verdict(records: &[[u8; 40]]) -> Verdict {
-    check(records.as_flattened()).unwrap()
+    let said = check(records.as_flattened()).unwrap();
+    if let Some(among) = among_struck(records) {
+        let moved = |fault: Fault| Fault {
+            place: 2 * fault.place + 1,
+            ..fault
+        };
+        let wanted = said.map_err(moved);
+        assert_eq!(check(among.as_flattened()), Ok(wanted), "among struck ones");
+    }
+    said
+}
+
+/// These records with a struck one before each, if a sheet may have as many: the one at place p is at 2p + 1.
+pub(super) fn among_struck(records: &[[u8; 40]]) -> Option<Vec<[u8; 40]>> {
+    let all = records.iter().flat_map(|record| [Sheet::STRUCK, *record]);
+    (2 * records.len() <= Sheet::MOST).then(|| all.collect())
 }
 
 pub(super) fn fault(place: usize, rule: Rule) -> Verdict {
@@ -72,6 +91,17 @@ fn number() {
     for record in producers() {
         sound(record);
         breaks(Rule::Number, with(record, 0, [0; 2]));
+    }
+}
+
+/// With one bit set a record isn't struck any more, and breaks a rule: it has no kind, or not even a number. In its
+/// note too.
+#[test]
+fn struck() {
+    sound(Sheet::STRUCK);
+    for bit in 0..8 * 40 {
+        let record = with(Sheet::STRUCK, bit / 8, [1 << (bit % 8)]);
+        breaks([Rule::Kind, Rule::Number][usize::from(bit >= 16)], record);
     }
 }
 

@@ -1,4 +1,5 @@
-//! The check of content: the order of the rules, the lowest place, the one refusal, and what is said.
+//! The check of content: the order of the rules, the lowest place, the one refusal, struck records at every place,
+//! and what is said.
 
 use super::rules::{fault, injector, producer, verdict, with};
 use super::{Fault, Rule, check};
@@ -54,6 +55,29 @@ fn both_ends() {
     assert_eq!(verdict(&sheet), fault(1023, Rule::Repeat));
 }
 
+/// A full sheet that is struck place by place, from both ends, with two wells between that know of each other.
+#[test]
+fn struck_at_every_place() {
+    let mut sheet: Vec<_> = (1..=1024).map(injector).collect();
+    for (one, other) in (0..512).zip((512..1024).rev()) {
+        sheet[one] = injector(2000);
+        sheet[other] = injector(2000);
+        assert_eq!(verdict(&sheet), fault(other, Rule::Repeat));
+        sheet[one] = producer(2001, [(2000, 1000)]);
+        assert_eq!(verdict(&sheet), Ok(()));
+        sheet[other] = Sheet::STRUCK;
+        assert_eq!(verdict(&sheet), fault(one, Rule::Links));
+        sheet[one] = Sheet::STRUCK;
+        assert_eq!(verdict(&sheet), Ok(()));
+    }
+    // All are. With a note alone at any place, there is a fault.
+    for place in 0..1024 {
+        sheet[place][24 + place % 16] = 1;
+        assert_eq!(verdict(&sheet), fault(place, Rule::Number));
+        sheet[place] = Sheet::STRUCK;
+    }
+}
+
 #[test]
 fn refused() {
     let sheet: Vec<_> = (1..=1025).map(injector).collect();
@@ -65,7 +89,7 @@ fn refused() {
         assert_eq!(check(&bytes[..n]), Err(Error::Sheet), "{n} bytes");
     }
     // A refusal stands before every fault, and tells none.
-    let faulty = [0; 40 * 1025];
+    let faulty = [9; 40 * 1025];
     assert_eq!(check(&faulty[..41]), Err(Error::Sheet));
     for (bytes, n) in [
         (&faulty[..0], 1),
@@ -86,7 +110,7 @@ fn refused() {
 /// What lies behind the n-th record isn't looked at.
 #[test]
 fn larger_buffer() {
-    let sheet = [injector(3), producer(4, [(5, 1000)]), [0; 40], injector(5)];
+    let sheet = [injector(3), producer(4, [(5, 1000)]), [9; 40], injector(5)];
     for (n, answer) in [(0, (0, 0, 0)), (1, (0, 0, 0)), (2, (0, 5, 1))] {
         let got = ffi::plan_check(sheet.as_flattened(), n);
         assert_eq!((got.number, got.rule, got.place), answer, "{n} records");
@@ -110,6 +134,16 @@ fn of_a_sheet() {
     assert_eq!(sheet.check(), Ok(()));
     sheet.drop_last(&sheet.digest()).unwrap();
     assert_eq!(sheet.check(), Ok(()));
+    for place in [0, 4] {
+        sheet.strike(place, &sheet.digest()).unwrap();
+        assert_eq!(sheet.check(), Ok(()));
+    }
+    sheet.append(&injector(4), &sheet.digest()).unwrap();
+    assert_eq!(sheet.check(), Ok(()));
+    sheet.append(&injector(6), &sheet.digest()).unwrap();
+    assert_eq!(sheet.check(), fault(10, Rule::Repeat));
+    sheet.close_up(&sheet.digest()).unwrap();
+    assert_eq!(sheet.check(), fault(8, Rule::Repeat));
 }
 
 #[test]

@@ -1,6 +1,7 @@
 //! A record of 40 bytes as the well that it means, so that nobody writes offsets by hand.
 
 use super::Rule;
+use crate::Sheet;
 
 #[cfg(test)]
 mod tests;
@@ -182,7 +183,8 @@ impl Well {
 
     /// The well that a record means, whose record is this one again. If no well has it, the answer is
     /// the first of [`Rule::Kind`], [`Rule::LinkCount`] and [`Rule::UnusedLinks`] that stands against
-    /// it.
+    /// it. A struck record is of neither kind; where a sheet may have some, ask
+    /// [`unless_struck`](Well::unless_struck).
     ///
     /// ```
     /// use luffa::plan::{Rule, Well};
@@ -213,6 +215,31 @@ impl Well {
             Ok(well)
         } else {
             Err(Rule::UnusedLinks)
+        }
+    }
+
+    /// The well that a record means, as [`from_record`](Well::from_record) has it, or none if the record is
+    /// [struck](Sheet::STRUCK): what to read a sheet with, whose check says that it is sound.
+    ///
+    /// ```
+    /// use luffa::plan::{Rule, Well};
+    /// use luffa::{Code, Sheet};
+    ///
+    /// let records = [Well::injector(14).to_record(), Sheet::STRUCK, Well::injector(15).to_record()];
+    /// let sheet = Sheet::from_records(Code::Luffa256, &records)?;
+    /// let mut numbers = Vec::new();
+    /// for record in sheet.records() {
+    ///     if let Some(well) = Well::unless_struck(record)? {
+    ///         numbers.push(well.number());
+    ///     }
+    /// }
+    /// assert_eq!(numbers, [14, 15]);
+    /// # Ok::<(), Box<dyn std::error::Error>>(())
+    /// ```
+    pub fn unless_struck(record: &[u8; 40]) -> Result<Option<Well>, Rule> {
+        match *record {
+            Sheet::STRUCK => Ok(None),
+            _ => Well::from_record(record).map(Some),
         }
     }
 }

@@ -9,9 +9,9 @@ use std::collections::BTreeMap;
 impl Given {
     /// Each injector asks every producer what it sends.
     fn rows(&self) -> Vec<Row> {
-        let row = |well: &Well| match (self.fault, well.kind()) {
-            (None, Kind::Injector) => {
-                let intake = sent(&self.wells, well.number());
+        let row = |well: &Option<Well>| match well {
+            Some(well) if self.fault.is_none() && well.kind() == Kind::Injector => {
+                let intake = sent(self.wells.iter().flatten(), well.number());
                 let spare = 1000 * i64::from(well.rate()) - intake as i64;
                 Row { intake, spare }
             }
@@ -22,18 +22,19 @@ impl Given {
 
     /// What its producers give.
     fn given(&self) -> u64 {
-        let producers = self.wells.iter().filter(|w| w.kind() == Kind::Producer);
+        let wells = self.wells.iter().flatten();
+        let producers = wells.filter(|w| w.kind() == Kind::Producer);
         producers.map(|w| 1000 * u64::from(w.rate())).sum()
     }
 }
 
 /// Kilograms that these wells send to an injector.
-fn sent(wells: &[Well], injector: u16) -> u64 {
+fn sent<'a>(wells: impl IntoIterator<Item = &'a Well>, injector: u16) -> u64 {
     let to = |well: &Well| {
         let named = well.links().iter().filter(|l| l.injector == injector);
         u64::from(well.rate()) * named.map(|l| u64::from(l.share)).sum::<u64>()
     };
-    wells.iter().map(to).sum()
+    wells.into_iter().map(to).sum()
 }
 
 fn expected(batch: &[Given]) -> Page {
@@ -90,23 +91,25 @@ fn random_batches() {
         assert!(places.eq(spare), "batch {k}: spare");
 
         let mut meet = |kind| *met.entry(kind).or_insert(0) += 1;
-        for row in &rows {
-            meet(match (row.intake, row.spare) {
-                (0, 0) => "zeros",
-                (0, _) => "sent nothing",
-                (_, 0) => "full",
-                (_, 1..) => "some to spare",
-                (_, ..0) => "overloaded",
+        let records = batch.iter().flat_map(|given| &given.wells);
+        for (row, record) in rows.iter().zip(records) {
+            meet(match (record, row.intake, row.spare) {
+                (None, ..) => "struck",
+                (_, 0, 0) => "zeros",
+                (_, 0, _) => "sent nothing",
+                (_, _, 0) => "full",
+                (_, _, 1..) => "some to spare",
+                (_, _, ..0) => "overloaded",
             });
         }
         for given in &batch {
-            meet(match (given.fault, given.wells.len()) {
+            meet(match (given.fault, given.wells.iter().flatten().count()) {
                 (Some(_), _) => "faulted",
-                (None, 0) => "empty",
+                (None, 0) => "no wells",
                 (None, _) => "sound",
             });
         }
     }
-    assert_eq!(met.len(), 8, "{met:?}");
+    assert_eq!(met.len(), 9, "{met:?}");
     assert!(met.values().all(|times| *times > 100), "{met:?}");
 }

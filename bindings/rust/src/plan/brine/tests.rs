@@ -1,10 +1,10 @@
-//! Pages at their edges: faulted sheets among sound ones, an overload by a kilogram, the largest batch,
-//! and nothing to say.
+//! Pages at their edges: faulted sheets among sound ones, struck records, an overload by a kilogram, the
+//! largest batch, and nothing to say.
 
-use super::{Row, Totals, brine};
+use super::{Row, Totals, brine, brine_into};
 use crate::plan::Rule;
-use crate::plan::rules::{fault, injector, producer, verdict, with_rate};
-use crate::{Code, Sheet};
+use crate::plan::rules::{among_struck, fault, injector, producer, verdict, with_rate};
+use crate::{Code, Error, Sheet};
 
 /// Whatever rule it breaks, a faulted sheet has zeros, and the others are as without it.
 #[test]
@@ -43,6 +43,44 @@ fn faulted_by_each_rule() {
         ];
         assert_eq!(page.rows, rows, "{rule}");
     }
+}
+
+/// A struck record has zeros in both lists, and all else is as without it.
+#[test]
+fn among_struck_records() {
+    let sheet = [
+        with_rate(injector(14), 400),
+        producer(3, [(14, 900), (15, 100)]),
+        injector(15),
+    ];
+    let without = brine([sheet.as_flattened()]).unwrap();
+    let among = among_struck(&sheet).unwrap();
+    let page = brine([among.as_flattened()]).unwrap();
+    assert_eq!(page.totals, without.totals);
+    let rows = without.rows[0]
+        .iter()
+        .flat_map(|row| [Row::default(), *row]);
+    assert!(rows.eq(page.rows[0].iter().copied()));
+    // It has a place in both.
+    for (in_one, in_other) in [(5, 6), (6, 5), (3, 3)] {
+        let (mut intake, mut spare) = (vec![5; in_one], vec![-5; in_other]);
+        let few = brine_into(among.as_flattened(), &[6], &mut intake, &mut spare);
+        assert_eq!(few, Err(Error::List));
+        assert_eq!((intake, spare), (vec![5; in_one], vec![-5; in_other]));
+    }
+
+    // Sheets of nothing else are sound, and with a note in one of their records they aren't.
+    let mut struck = vec![0; 40 * 1024];
+    let page = brine([&struck; 64]).unwrap();
+    let totals = Totals {
+        sound: 64,
+        ..Totals::default()
+    };
+    assert_eq!(page.totals, totals);
+    assert!(page.rows == vec![vec![Row::default(); 1024]; 64]);
+    struck[40 * 700 + 39] = 1;
+    let totals = brine([&struck; 64]).unwrap().totals;
+    assert_eq!((totals.sound, totals.faulted), (0, 64));
 }
 
 /// An injector of one tonne, which each producer more sends a kilogram more.

@@ -1,11 +1,11 @@
 //! Each refusal of a search for who depends on a well at its edges, beside the same calls with just enough.
 
 use super::order::Call;
-use super::tests::number;
+use super::tests::{line, number};
 use super::{reach, reach_into};
 use crate::Error;
 use crate::order::{MAX, WIDE};
-use crate::plan::rules::{injector, producer};
+use crate::plan::rules::{among_struck, injector, producer};
 
 #[test]
 fn just_enough() {
@@ -80,11 +80,36 @@ fn no_records() {
     }
 }
 
+/// A struck record has no number, not even 0; but it has a byte.
+#[test]
+fn struck_records() {
+    for (n, hops) in [(1, 0), (5, 1), (9, 2), (512, 3)] {
+        let mut call = Call::new(n, 0, hops);
+        call.sheet = among_struck(&line(n)).unwrap().concat();
+        call.n = 2 * n;
+        call.marks = call.marks.into_iter().flat_map(|mark| [0, mark]).collect();
+        call.clone().answers(0);
+        for few in [0, n, 2 * n - 1] {
+            let mut call = call.clone();
+            call.reached.truncate(few);
+            call.answers(22);
+        }
+        for absent in [0, 1 << 16, WIDE] {
+            let mut call = call.clone();
+            call.well = absent;
+            call.clone().answers(21);
+            // All are struck.
+            call.sheet.fill(0);
+            call.answers(21);
+        }
+    }
+}
+
 /// What lies behind the n-th record is no part of the sheet: neither a well, nor the end of a link, nor a fault.
 #[test]
 fn behind_the_last() {
     let mut call = Call::new(2, 0, 0);
-    call.sheet = [producer(127, [(63, 1000)]), injector(63), [0; 40]].concat();
+    call.sheet = [producer(127, [(63, 1000)]), injector(63), [9; 40]].concat();
     call.marks = vec![0, 1];
     for (n, answer) in [(0, 21), (1, 20), (2, 0), (3, 20)] {
         let mut call = call.clone();

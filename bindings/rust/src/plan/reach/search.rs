@@ -17,12 +17,12 @@ pub fn links(one: &Well, other: &Well) -> bool {
 }
 
 /// How many links the shortest chain has between each two wells: with every well in turn, the chains that go
-/// by it.
-fn distances(wells: &[Well]) -> Vec<Vec<usize>> {
-    let near = |one: &Well, other: &Well| match one == other {
-        true => 0,
-        false if links(one, other) || links(other, one) => 1,
-        false => APART,
+/// by it. None goes by a struck record, or to one.
+fn distances(wells: &[Option<Well>]) -> Vec<Vec<usize>> {
+    let near = |one: &Option<Well>, other: &Option<Well>| match (one, other) {
+        (Some(one), Some(other)) if one == other => 0,
+        (Some(one), Some(other)) if links(one, other) || links(other, one) => 1,
+        _ => APART,
     };
     let row = |one| wells.iter().map(|other| near(one, other)).collect();
     let mut all: Vec<Vec<_>> = wells.iter().map(row).collect();
@@ -46,9 +46,11 @@ fn random_sheets() {
         let n = numbers.below(25);
         let wells = any_wells(&mut numbers, n, 1 + k % 4);
         let given = Given::any(&mut numbers, wells);
+        let n = given.wells.len();
         let (bytes, distances) = (given.bytes(), distances(&given.wells));
         let mut meet = |kind| *met.entry(kind).or_insert(0) += 1;
-        for (well, row) in given.wells.iter().zip(&distances) {
+        let rows = given.wells.iter().zip(&distances);
+        for (well, row) in rows.filter_map(|(well, row)| well.map(|well| (well, row))) {
             for hops in 0..=Reached::HOPS_MOST {
                 let number = well.number();
                 // With more bytes than the records need.
@@ -65,23 +67,25 @@ fn random_sheets() {
                 }
                 assert_eq!(lent, wanted, "sheet {k}, well {number} in {hops}");
             }
-            for links in row {
-                meet(match (given.fault, *links) {
-                    (Some(_), _) => "unsound",
-                    (None, 0) => "itself",
-                    (None, 1) => "one hop",
-                    (None, 2) => "two hops",
-                    (None, 3) => "three hops",
-                    (None, APART) => "apart",
-                    (None, _) => "farther",
+            for (other, links) in given.wells.iter().zip(row) {
+                meet(match (given.fault, other, *links) {
+                    (Some(_), ..) => "unsound",
+                    (_, None, _) => "struck",
+                    (_, _, 0) => "itself",
+                    (_, _, 1) => "one hop",
+                    (_, _, 2) => "two hops",
+                    (_, _, 3) => "three hops",
+                    (_, _, APART) => "apart",
+                    _ => "farther",
                 });
             }
         }
-        // The highest number that a well of so few may have is 64,441.
-        let other = 65_535 - numbers.below(20) as u16;
+        // The highest number that a well of so few may have is 64,441. A struck record has none, nor 0.
         let refused = given.fault.map_or(Error::Well, |_| Error::Unsound);
-        assert_eq!(reach(&bytes, other, k % 4), Err(refused));
+        for other in [65_535 - numbers.below(20) as u16, 0] {
+            assert_eq!(reach(&bytes, other, k % 4), Err(refused));
+        }
     }
-    assert_eq!(met.len(), 7, "{met:?}");
+    assert_eq!(met.len(), 8, "{met:?}");
     assert!(met.values().all(|times| *times > 1000), "{met:?}");
 }

@@ -4,13 +4,23 @@
 use super::{Reached, reach, reach_into};
 use crate::order::{MAX, WIDE};
 use crate::plan::Well;
-use crate::plan::rules::{injector, producer, with};
+use crate::plan::rules::{among_struck, injector, producer, with};
 use crate::{Code, Sheet};
 use std::collections::BTreeSet;
 
-/// The places that are reached from a well in 0, 1, 2 and 3 hops.
+/// The places that are reached from a well in 0, 1, 2 and 3 hops. Among struck records the same wells are.
 #[track_caller]
 fn reaches(sheet: &[[u8; 40]], well: u16, wanted: [&[usize]; 4]) {
+    marks(sheet, well, wanted);
+    if let Some(among) = among_struck(sheet) {
+        let moved = |places: &[usize]| places.iter().map(|place| 2 * place + 1).collect();
+        let wanted: [Vec<_>; 4] = wanted.map(moved);
+        marks(&among, well, wanted.each_ref().map(|places| &places[..]));
+    }
+}
+
+#[track_caller]
+fn marks(sheet: &[[u8; 40]], well: u16, wanted: [&[usize]; 4]) {
     for (hops, places) in wanted.into_iter().enumerate() {
         let reached = reach(sheet.as_flattened(), well, hops).unwrap();
         assert!(

@@ -72,6 +72,20 @@ fn replaced() {
     assert_eq!(injector.with_links(&LINKS[..1]), Err(Rule::LinkCount));
 }
 
+/// A struck record is no well, and one that has a bit set is what it is otherwise.
+#[test]
+fn struck() {
+    assert_eq!(Well::unless_struck(&[0; 40]), Ok(None));
+    for bit in 0..8 * 40 {
+        let mut record = [0; 40];
+        record[bit / 8] = 1 << (bit % 8);
+        let read = Well::from_record(&record);
+        assert_eq!(Well::unless_struck(&record), read.map(Some));
+        // Kinds 1 and 2 are two of the bits.
+        assert_eq!(read.is_ok(), [16, 17].contains(&bit));
+    }
+}
+
 /// Any 40 bytes are a well's, which has them again, or break a rule. The check finds that rule too, or
 /// one before it.
 #[test]
@@ -93,7 +107,9 @@ fn any_record() {
         } else {
             None
         };
-        match Well::from_record(&record) {
+        let read = Well::from_record(&record);
+        assert_eq!(Well::unless_struck(&record), read.map(Some));
+        match read {
             Ok(well) => assert_eq!((well.to_record(), broken), (record, None)),
             Err(rule) => {
                 assert_eq!(Some(rule), broken, "{record:?}");
