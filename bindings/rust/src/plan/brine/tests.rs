@@ -6,14 +6,19 @@ use crate::plan::Rule;
 use crate::plan::rules::{among_struck, fault, injector, producer, verdict, with_rate};
 use crate::{Code, Error, Sheet};
 
-/// Whatever rule it breaks, a faulted sheet has zeros, and the others are as without it.
-#[test]
-fn faulted_by_each_rule() {
-    let sound = [
+/// A sound sheet, both of whose injectors are overloaded.
+fn sound() -> [[u8; 40]; 3] {
+    [
         with_rate(injector(14), 400),
         producer(3, [(14, 900), (15, 100)]),
         injector(15),
-    ];
+    ]
+}
+
+/// Whatever rule it breaks, a faulted sheet has zeros, and the others are as without it.
+#[test]
+fn faulted_by_each_rule() {
+    let sound = sound();
     let sound_bytes = sound.as_flattened();
     let without = brine([sound_bytes; 2]).unwrap();
     assert_eq!(without.totals.overloaded, 4);
@@ -48,11 +53,7 @@ fn faulted_by_each_rule() {
 /// A struck record has zeros in both lists, and all else is as without it.
 #[test]
 fn among_struck_records() {
-    let sheet = [
-        with_rate(injector(14), 400),
-        producer(3, [(14, 900), (15, 100)]),
-        injector(15),
-    ];
+    let sheet = sound();
     let without = brine([sheet.as_flattened()]).unwrap();
     let among = among_struck(&sheet).unwrap();
     let page = brine([among.as_flattened()]).unwrap();

@@ -9,7 +9,7 @@ use crate::sheet::tests::sheet;
 use crate::{Code, ffi};
 
 /// A call, with all that it is lent.
-#[derive(Clone, PartialEq)]
+#[derive(Clone)]
 pub struct Call {
     pub held: Held,
     pub claim: Vec<u8>,
@@ -108,7 +108,7 @@ impl Save for Call {
 const ORDER: [u64; 7] = [1, 2, 5, 6, 23, 10, 11];
 
 /// Ways to meet the one that no other save has. They come before the others.
-pub const NO_LIST: &[Way<Call>] = &[
+const NO_LIST: &[Way<Call>] = &[
     |c| c.places.clear(),
     |c| c.places.truncate(c.held.n - 1),
     |c| c.places.truncate(1),
