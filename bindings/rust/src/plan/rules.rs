@@ -94,11 +94,14 @@ fn number() {
     }
 }
 
-/// With one bit set a record isn't struck any more, and breaks a rule: it has no kind, or not even a number. In its
-/// note too.
+/// Any number of records may be struck. With one bit set a record isn't, and breaks a rule: it has no kind, or not
+/// even a number. In its note too.
 #[test]
 fn struck() {
     sound(Sheet::STRUCK);
+    for n in [1, 2, 3, 512, 1023, 1024] {
+        assert_eq!(verdict(&vec![Sheet::STRUCK; n]), Ok(()), "{n} records");
+    }
     for bit in 0..8 * 40 {
         let record = with(Sheet::STRUCK, bit / 8, [1 << (bit % 8)]);
         breaks([Rule::Kind, Rule::Number][usize::from(bit >= 16)], record);
