@@ -187,6 +187,8 @@ fn named_injectors() {
     assert_eq!(verdict(&[links_14, fast]), fault(1, Rule::Rate));
     let links_0 = producer(3, [(0, 1000)]);
     assert_eq!(verdict(&[links_0, injector(0)]), fault(1, Rule::Number));
+    // Nor is a struck record an injector of number 0.
+    assert_eq!(verdict(&[links_0]), fault(0, Rule::Links));
     // The number is right, the kind isn't 2.
     for kind in [0, 3, 6, 0x82] {
         let other = with(injector(14), 2, [kind]);
