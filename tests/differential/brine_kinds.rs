@@ -1,12 +1,12 @@
-//! The kinds of batch that a whole run has to meet: every sort of sheet beside every other, every rule
-//! that faults one, injectors sent nothing, just enough and all that there can be, and each refusal at
-//! its edge.
+//! The kinds of batch that a whole run has to meet: every sort of sheet beside every other, every rule that faults
+//! one, struck records in a sound sheet and in a faulted one, injectors sent nothing, just enough and all that there
+//! can be, and each refusal at its edge.
 
 use crate::brine_model::{refusals, Batch, BrineAnswer};
 use crate::brines::{FEWER, FEW_ONCE_CUT, LISTS, TOO_MANY_SHEETS};
 use crate::met::{answer_kinds, Met};
 use crate::plan::{self, Rule, Well, INJECTOR, PRODUCER};
-use crate::plan_kinds::{which, See, LENGTHS, PLACES};
+use crate::plan_kinds::{nearly_struck, which, See, LENGTHS, PLACES};
 use crate::plans::{TOO_MANY, TOO_SHORT};
 use crate::sheet::{MOST, RECORD_BYTES};
 
@@ -78,6 +78,7 @@ pub fn see_page(met: &mut Met, sheets: &[Vec<Well>], batch: &Batch, answer: &Bri
         });
     }
     see_sheets(see, &seen);
+    see_struck(see, &seen);
     see_figures(see, &seen, answer);
     // What follows looks at every pair of wells, and takes long.
     for sheet in seen.iter().filter(|sheet| sheet.wells.len() <= 100) {
@@ -107,6 +108,25 @@ fn see_sheets(see: See, seen: &[Seen]) {
         let mut later = seen[k + 1..].iter().flat_map(|next| next.intake);
         if later.any(|&intake| intake > 0) {
             see(format!("{rule}, then an intake"));
+        }
+    }
+}
+
+/// Where struck records are, and whether a well beside them nearly is one.
+fn see_struck(see: See, seen: &[Seen]) {
+    for sheet in seen {
+        let n = sheet.wells.len();
+        let struck = |&place: &usize| sheet.wells[place].is_struck();
+        let struck: Vec<usize> = (0..n).filter(struck).collect();
+        let sort = sheet.sort();
+        for place in &struck {
+            see(format!("{sort}, the {} place struck", which(*place, n)));
+        }
+        if n > 0 && struck.len() == n {
+            see("a sheet of struck records".into());
+        }
+        if sheet.wells.iter().any(nearly_struck) && !struck.is_empty() {
+            see(format!("{sort}, one struck and one nearly"));
         }
     }
 }
@@ -154,7 +174,8 @@ fn see_faulted(see: See, sheet: &Seen, rule: Rule) {
 
 /// What each injector of a sound sheet is sent and has to spare, by whom, and who else has its number.
 fn see_injectors(see: See, sheet: &Seen, seen: &[Seen]) {
-    for (place, well) in sheet.wells.iter().enumerate() {
+    let wells = sheet.wells.iter().enumerate();
+    for (place, well) in wells.filter(|(_, well)| !well.is_struck()) {
         let (intake, spare) = (sheet.intake[place], sheet.spare[place]);
         if well.kind == PRODUCER {
             see(format!("a producer's rate {}", well.rate));
@@ -227,6 +248,12 @@ fn wanted() -> Vec<String> {
             page(format!("{n} records, {sort}"));
         }
     }
+    for place in PLACES {
+        page(format!("sound, the {place} place struck"));
+        page(format!("faulted, the {place} place struck"));
+    }
+    page("a sheet of struck records".into());
+    page("faulted, one struck and one nearly".into());
     for rule in Rule::ALL {
         for place in PLACES {
             page(format!("{rule} in the {place} sheet"));

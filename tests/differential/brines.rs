@@ -1,6 +1,6 @@
 //! Batches for the brine statement: sheets of all sorts one after another, sound and mistyped, whose
-//! injectors are overloaded, just filled or not used; and what is refused. Every call goes through
-//! calls.rs.
+//! injectors are overloaded, just filled or not used, at times with struck records; and what is refused. Every
+//! call goes through calls.rs.
 
 use crate::brine::{self, MOST_SHEETS};
 use crate::brine_kinds::{see_page, see_refused};
@@ -91,6 +91,7 @@ impl Numbers {
                 (4, _) => vec![],
                 _ => self.sound_wells(n),
             };
+            self.strike_some(&mut wells);
             if self.between(0, 2) == 0 {
                 self.fit(&mut wells);
             }

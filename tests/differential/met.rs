@@ -46,6 +46,17 @@ impl Met {
     }
 }
 
+/// Every set of two or more of these refusals, which hold together.
+pub fn sets(refusals: &[u64]) -> Vec<Vec<u64>> {
+    let set = |chosen: usize| {
+        let hold = refusals.iter().enumerate();
+        let hold = hold.filter(|(k, _)| chosen >> k & 1 == 1);
+        hold.map(|(_, number)| *number).collect()
+    };
+    let sets = (0..1 << refusals.len()).map(set);
+    sets.filter(|hold: &Vec<u64>| hold.len() > 1).collect()
+}
+
 /// What see_answer has to meet of a call: each number, and of the refusals that are judged together,
 /// given in their order, each alone and each two.
 pub fn answer_kinds(call: &str, numbers: &[u64], refusals: &[u64]) -> Vec<String> {

@@ -1,10 +1,11 @@
-//! The kinds of plan that a whole run has to meet: every rule at every sort of place, with every other
-//! rule beside it or after it, and its numbers just kept and just broken.
+//! The kinds of plan that a whole run has to meet: every rule at every sort of place, with every other rule beside it
+//! or after it, and its numbers just kept and just broken; struck records at every sort of place of a sound sheet and
+//! about every fault, and every byte that keeps a record from being struck.
 
 use crate::met::Met;
 use crate::plan::{broken, is_injector, wells, Link, Rule, Well, INJECTOR, PRODUCER};
 use crate::plan_model::ContentAnswer;
-use crate::plans::{OVER_RATE, TOO_MANY, TOO_SHORT, TOTALS};
+use crate::plans::{bytes_of, OVER_RATE, TOO_MANY, TOO_SHORT, TOTALS};
 use crate::sheet::{MOST, RECORD_BYTES};
 
 /// What a plan was: its verdict, and how that came about.
@@ -29,10 +30,21 @@ pub fn see_plan(met: &mut Met, wells: &[Well], behind: &[u8], answer: &ContentAn
     if n > 100 {
         return;
     }
+    let struck: Vec<usize> = (0..n).filter(|&place| wells[place].is_struck()).collect();
     let Some((place, rule)) = fault else {
-        return see_sound(&mut |what| met.see(format!("sound: {what}")), wells);
+        return see_sound(
+            &mut |what| met.see(format!("sound: {what}")),
+            wells,
+            &struck,
+        );
     };
     see_others(met, wells, place, rule);
+    see_struck(
+        &mut |what| met.see(format!("{rule}: {what}")),
+        wells,
+        &struck,
+        place,
+    );
     see_held(
         &mut |what| met.see(format!("holds: {what}")),
         wells,
@@ -52,13 +64,59 @@ pub const LENGTHS: [&str; 3] = ["just enough", "one more", "more"];
 
 pub type See<'a> = &'a mut dyn FnMut(String);
 
-/// Rules that are only just kept.
-fn see_sound(see: See, all: &[Well]) {
-    for (place, well) in all.iter().enumerate() {
+/// How many records are struck, of a sheet that has any.
+const STRUCK: [&str; 3] = ["one", "some", "all"];
+
+/// Which of the others a struck record is.
+const BESIDE: [&str; 2] = ["before it", "after it"];
+
+/// Neither a number nor a kind nor a rate keeps the record from being struck.
+pub fn nearly_struck(well: &Well) -> bool {
+    !well.is_struck() && (well.number, well.kind, well.rate) == (0, 0, 0)
+}
+
+/// Struck records about the fault, and a well that is nearly one. The one of which a fault repeats the number stands
+/// before it too, and struck ones may come between.
+fn see_struck(see: See, all: &[Well], struck: &[usize], place: usize) {
+    for &other in struck {
+        see(format!(
+            "a struck record {}",
+            BESIDE[usize::from(other > place)]
+        ));
+        let earlier = all[..place]
+            .iter()
+            .position(|one| one.number == all[place].number);
+        if earlier.is_some_and(|earlier| (earlier..place).contains(&other)) {
+            see("a struck record between".into());
+        }
+    }
+    let near = all[place];
+    let bytes = bytes_of(&near, near.note);
+    let set: Vec<usize> = (0..RECORD_BYTES).filter(|&k| bytes[k] != 0).collect();
+    match set[..] {
+        [byte] => see(format!("byte {byte} alone")),
+        [first, ..] if first >= 24 => see("a note alone".into()),
+        _ => (),
+    }
+}
+
+/// Struck records, and rules that are only just kept.
+fn see_sound(see: See, all: &[Well], struck: &[usize]) {
+    let n = all.len();
+    for &place in struck {
+        let many = match struck.len() {
+            many if many == n => STRUCK[2],
+            1 => STRUCK[0],
+            _ => STRUCK[1],
+        };
+        see(format!("{many} struck, the {} place", which(place, n)));
+    }
+    let wells = all.iter().enumerate().filter(|(_, well)| !well.is_struck());
+    for (place, well) in wells {
         see(format!("number {}", well.number));
         see(format!("rate {} of kind {}", well.rate, well.kind));
         see(format!("{} links of kind {}", well.link_count, well.kind));
-        for other in &all[..place] {
+        for other in all[..place].iter().filter(|other| !other.is_struck()) {
             see(format!("apart by {}", other.number ^ well.number));
         }
         for link in well.used() {
@@ -191,7 +249,10 @@ fn see_links(see: See, all: &[Well], behind: &[u8], well: &Well) {
         }
         see(format!("{k} of {} missing", used.len()));
         for other in all.iter().filter(|other| other.number == name) {
-            see(format!("to kind {}", other.kind));
+            match other.is_struck() {
+                true => see("to number 0 beside a struck record".into()),
+                false => see(format!("to kind {}", other.kind)),
+            }
         }
         for number in all
             .iter()
@@ -259,6 +320,22 @@ fn wanted() -> Vec<String> {
         }
     }
 
+    for (many, place) in STRUCK.iter().flat_map(|many| PLACES.map(|at| (many, at))) {
+        want(format!("sound: {many} struck, the {place} place"));
+    }
+    for (rule, beside) in Rule::ALL
+        .iter()
+        .flat_map(|rule| BESIDE.map(|beside| (rule, beside)))
+    {
+        want(format!("{rule}: a struck record {beside}"));
+    }
+    for byte in 0..RECORD_BYTES {
+        // The first two bytes are a number, and then it is of no kind.
+        let rule = if byte < 2 { Rule::Kind } else { Rule::Number };
+        want(format!("{rule}: byte {byte} alone"));
+    }
+    want("number: a note alone".into());
+    want("repeat: a struck record between".into());
     for number in [1, 65_535] {
         want(format!("sound: number {number}"));
     }
@@ -323,6 +400,7 @@ fn wanted() -> Vec<String> {
     }
     for what in [
         "to number 0",
+        "to number 0 beside a struck record",
         "to itself",
         "to kind 1",
         "to an injector behind the sheet",

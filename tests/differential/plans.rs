@@ -1,9 +1,9 @@
-//! Sheets for the check of content: sound ones, with numbers at the edge of each rule, and the same
-//! mistyped at a place or two on purpose. Every call goes through calls.rs.
+//! Sheets for the check of content: sound ones, with numbers at the edge of each rule and at times with struck records,
+//! and the same mistyped at a place or two on purpose. Every call goes through calls.rs.
 
 use crate::calls;
 use crate::met::Met;
-use crate::plan::{Link, Rule, Well, INJECTOR, PRODUCER};
+use crate::plan::{self, Link, Rule, Well, INJECTOR, PRODUCER};
 use crate::plan_kinds::see_plan;
 use crate::sheet::{Record, MOST, RECORD_BYTES};
 use crate::{Agreed, Numbers};
@@ -168,7 +168,51 @@ impl Numbers {
         }
     }
 
-    /// Mistypes a sheet so many times, often more than once at one place.
+    /// Strikes some of the wells, now and then: mostly such as no other links, and else any one.
+    pub fn strike_some(&mut self, wells: &mut [Well]) {
+        match self.between(0, 19) {
+            0 if !wells.is_empty() => wells[self.some_place(wells.len())] = Well::default(),
+            _ => self.strike_unlinked(wells),
+        }
+    }
+
+    /// Strikes one of the wells that no other links, or some of them, or altogether all, now and then. What was sound
+    /// still is.
+    pub fn strike_unlinked(&mut self, wells: &mut [Well]) {
+        let links = wells.iter().flat_map(|well| well.used());
+        let linked: BTreeSet<u16> = links.map(|link| link.injector).collect();
+        let unlinked = |&place: &usize| !linked.contains(&wells[place].number);
+        let unlinked: Vec<usize> = (0..wells.len()).filter(unlinked).collect();
+        if unlinked.is_empty() {
+            return;
+        }
+        let of_four = self.between(1, 3);
+        match self.between(0, 11) {
+            0 => wells.fill(Well::default()),
+            1 => wells[self.one_of(&unlinked)] = Well::default(),
+            2 | 3 => {
+                for place in unlinked {
+                    if self.between(1, 4) <= of_four {
+                        wells[place] = Well::default();
+                    }
+                }
+            }
+            _ => (),
+        }
+    }
+
+    /// A record of which one bit is set, or only a note, or all but the note.
+    pub fn nearly_struck(&mut self) -> Record {
+        let mut record = [0; RECORD_BYTES];
+        match self.between(0, 5) {
+            0 => record[24..].copy_from_slice(&self.bytes(16)),
+            1 => record[..24].copy_from_slice(&self.bytes(24)),
+            _ => record[self.between(0, RECORD_BYTES - 1)] = 1 << self.between(0, 7),
+        }
+        record
+    }
+
+    /// Mistypes a sheet so many times, often more than once at one place. At times the well there is nearly struck.
     pub fn mistype_some(&mut self, wells: &mut [Well], times: usize) {
         let n = wells.len();
         if n == 0 {
@@ -176,8 +220,13 @@ impl Numbers {
         }
         let mut place = self.some_place(n);
         for _ in 0..times {
-            let rule = self.one_of(&Rule::ALL);
-            self.mistype(wells, place, rule);
+            match self.between(0, 9) {
+                0 => wells[place] = Well::read(&self.nearly_struck()),
+                _ => {
+                    let rule = self.one_of(&Rule::ALL);
+                    self.mistype(wells, place, rule);
+                }
+            }
             place = match self.between(0, 1) {
                 0 => place,
                 _ => self.some_place(n),
@@ -241,18 +290,23 @@ impl Numbers {
         self.one_of(&[0, n - 1, any])
     }
 
-    /// The records of these wells.
+    /// The records of these wells. Mostly each with a number is given the same note.
     pub fn sheet(&mut self, wells: &[Well]) -> Vec<u8> {
-        let note = self.bytes(16);
-        let records = wells.iter().map(|well| bytes_of(well, &note));
+        let note = self.note();
+        let records = wells.iter().map(|well| bytes_of(well, note));
         records.collect::<Vec<Record>>().as_flattened().to_vec()
+    }
+
+    fn note(&mut self) -> [u8; 16] {
+        let any = self.bytes(16).try_into().unwrap();
+        self.one_of(&[any, any, [0; 16]])
     }
 
     /// What lies behind the n-th record: often nothing, or a byte, or records that would make another
     /// sheet of it.
     pub fn behind(&mut self, wells: &[Well]) -> Vec<u8> {
-        let note = self.bytes(16);
-        let record = |well: &Well| bytes_of(well, &note).to_vec();
+        let note = self.note();
+        let record = |well: &Well| bytes_of(well, note).to_vec();
         match self.between(0, 7) {
             0 => self.bytes(1),
             1 => vec![0; RECORD_BYTES],
@@ -278,9 +332,7 @@ pub fn at_rest(number: u16, kind: u8) -> Well {
     Well {
         number,
         kind,
-        link_count: 0,
-        rate: 0,
-        links: [Link::default(); 4],
+        ..Well::default()
     }
 }
 
@@ -289,7 +341,9 @@ pub fn injectors(wells: &[Well]) -> Vec<u16> {
     injectors.map(|well| well.number).collect()
 }
 
-fn bytes_of(well: &Well, note: &[u8]) -> Record {
+/// The record of a well, with this note unless it has no number: such a one may be struck, or nearly so.
+pub fn bytes_of(well: &Well, note: [u8; 16]) -> Record {
+    let note = if well.number == 0 { well.note } else { note };
     let links = well.links.map(|link| [link.injector, link.share]);
     let links: Vec<u8> = links
         .as_flattened()
@@ -301,7 +355,7 @@ fn bytes_of(well: &Well, note: &[u8]) -> Record {
         &[well.kind, well.link_count][..],
         &well.rate.to_be_bytes(),
         &links,
-        note,
+        &note,
     ];
     all.concat().try_into().unwrap()
 }
@@ -337,11 +391,13 @@ pub const TOO_SHORT: [(&str, usize); 4] = [
 pub fn plan(numbers: &mut Numbers, met: &mut Met) -> Agreed {
     let n = numbers.wells();
     let mut wells = numbers.sound_wells(n);
+    numbers.strike_some(&mut wells);
     let times = numbers.one_of(&[0, 0, 1, 1, 1, 2, 2, 3]);
     numbers.mistype_some(&mut wells, times);
     let mut sheet = numbers.sheet(&wells);
     sheet.extend(numbers.behind(&wells));
     let answer = calls::plan(&sheet, n)?;
+    let wells = plan::wells(&sheet, n);
     see_plan(met, &wells, &sheet[RECORD_BYTES * n..], &answer);
 
     match numbers.between(0, 15) {

@@ -1,13 +1,13 @@
 //! The kinds of search that a whole run has to meet: records that are each number of links away from a producer and
-//! from an injector, by way of wells before them and behind them and by each link of a record; every set of refusals
-//! at once; and each refusal at its edge.
+//! from an injector, by way of wells before them and behind them and by each link of a record; struck records, and
+//! number 0 asked for beside them; every set of refusals at once; and each refusal at its edge.
 
 use crate::brines::FEWER;
 use crate::histories::EDGES;
 use crate::mend_kinds::want_no_sheet;
-use crate::met::{answer_kinds, Met};
+use crate::met::{answer_kinds, sets, Met};
 use crate::plan::{self, Rule, INJECTOR, PRODUCER};
-use crate::plan_kinds::{which, See, LENGTHS, PLACES};
+use crate::plan_kinds::{nearly_struck, which, See, LENGTHS, PLACES};
 use crate::reach::{Net, MOST_HOPS, UNJOINED};
 use crate::reach_model::Search;
 use crate::reaches::{NO_HOPS, NO_WELLS, SHAPES, STALE};
@@ -36,6 +36,24 @@ pub fn see(met: &mut Met, before: &Search, after: &Search, net: &Net) {
     if n == 0 {
         see(format!("{number}, no records"));
     }
+    // Of a sheet that isn't there whole, what is there is looked at.
+    let struck = |&place: &usize| net.wells[place].is_struck();
+    let struck: Vec<usize> = (0..net.wells.len()).filter(struck).collect();
+    if before.well == 0 && !struck.is_empty() {
+        see(format!("{number}, well 0, one struck"));
+        for place in &struck {
+            see(format!(
+                "{number}, well 0, the {} place struck",
+                which(*place, n)
+            ));
+        }
+    }
+    if n > 0 && struck.len() == n {
+        see(format!("{number}, all struck"));
+    }
+    if net.wells.iter().any(nearly_struck) && !struck.is_empty() {
+        see(format!("{number}, one struck and one nearly"));
+    }
     match (number, net.fault) {
         (0, _) => {
             let marks = after.reached[..n].iter();
@@ -46,6 +64,11 @@ pub fn see(met: &mut Met, before: &Search, after: &Search, net: &Net) {
                 _ => MARKED[1],
             };
             see(format!("{} hops mark {marked}", before.hops));
+            for place in &struck {
+                let was = before.reached[*place];
+                see(format!("the {} place struck", which(*place, n)));
+                see(format!("{was} becomes 0, struck"));
+            }
             for (was, is) in STALE.iter().flat_map(|was| [0, 1].map(|is| (*was, is))) {
                 let mut bytes = before.reached[..n].iter().zip(&after.reached);
                 if bytes.any(|(&before, &after)| (before, after) == (was, is)) {
@@ -100,7 +123,11 @@ pub fn see_from(
         return;
     }
     let kind = well.kind;
-    for far in far {
+    for (far, _) in far
+        .iter()
+        .zip(&net.wells)
+        .filter(|(_, well)| !well.is_struck())
+    {
         see(format!("from kind {kind}, one at {}", far_name(*far)));
     }
     for (place, by) in nearer(net, far).iter().enumerate() {
@@ -124,12 +151,13 @@ pub fn see_from(
     let marked = |place: usize| far[place] <= MOST_HOPS;
     for (a, b) in (0..n).flat_map(|a| (0..a).map(move |b| (a, b))) {
         let apart = net.wells[a].number ^ net.wells[b].number;
-        if apart.is_power_of_two() && marked(a) != marked(b) {
+        let wells = !net.wells[a].is_struck() && !net.wells[b].is_struck();
+        if wells && apart.is_power_of_two() && marked(a) != marked(b) {
             see(format!("marked and not, apart by {apart}"));
         }
     }
     let behind = Net::new(plan::wells(&search.sheet, n + 1));
-    if behind.fault.is_none() && behind.wells.len() > n {
+    if behind.fault.is_none() && behind.wells.len() > n && !behind.wells[n].is_struck() {
         let more = far_name(behind.distances(place)[n]);
         see(format!("behind the sheet one at {more}"));
     }
@@ -189,18 +217,21 @@ fn wanted() -> Vec<String> {
     let refusals = &NUMBERS[1..];
     let mut kinds = answer_kinds("Reach", &NUMBERS, refusals);
     let want: See = &mut |what| kinds.push(format!("Reach {what}"));
-    for set in 0..1 << refusals.len() {
-        let hold = refusals
-            .iter()
-            .enumerate()
-            .filter(|(k, _)| set >> k & 1 == 1);
-        let hold: Vec<u64> = hold.map(|(_, number)| *number).collect();
-        if hold.len() > 1 {
-            want(format!("with {hold:?}"));
-        }
+    for hold in sets(refusals) {
+        want(format!("with {hold:?}"));
     }
     want("19, no records".into());
     want("21, no records".into());
+    want("21, all struck".into());
+    want("20, well 0, one struck".into());
+    want("20, one struck and one nearly".into());
+    for place in PLACES {
+        want(format!("the {place} place struck"));
+        want(format!("21, well 0, the {place} place struck"));
+    }
+    for was in STALE {
+        want(format!("{was} becomes 0, struck"));
+    }
     for (rule, place) in Rule::ALL
         .iter()
         .flat_map(|rule| PLACES.map(|at| (rule, at)))

@@ -1,5 +1,5 @@
 //! Sheets of which it is asked who depends on a well: lines, stars, parts that nothing joins and any others, with
-//! producers and injectors in any order; and what is refused of them. Every call goes through calls.rs.
+//! producers, injectors and struck records in any order; and what is refused of them. Every call goes through calls.rs.
 
 use crate::brines::{FEWER, MORE_PLACES};
 use crate::calls;
@@ -82,6 +82,7 @@ impl Numbers {
             "parts" => self.all_overloaded(n),
             _ => self.sound_wells(n),
         };
+        self.strike_unlinked(&mut wells);
         match self.between(0, 3) {
             0 => (),
             1 => wells.reverse(),
@@ -132,11 +133,12 @@ impl Numbers {
         }
     }
 
-    /// A second record to ask for, beside the one from which all are so far: any, or one that a chain joins to it.
-    fn other(&mut self, far: &[usize]) -> usize {
+    /// A second record to ask for, beside the one from which all are so far: any that isn't struck, or one that a chain
+    /// joins to it.
+    fn other(&mut self, unstruck: &[usize], far: &[usize]) -> usize {
         let joined = |&place: &usize| far[place] != 0 && far[place] != UNJOINED;
         let joined: Vec<usize> = (0..far.len()).filter(joined).collect();
-        let any = self.between(0, far.len() - 1);
+        let any = self.one_of(unstruck);
         if joined.is_empty() {
             return any;
         }
@@ -177,7 +179,9 @@ impl Numbers {
 
     /// Asks for a well that the sheet hasn't.
     fn refuse_well(&mut self, wells: &[Well], given: &mut Search) -> String {
-        let (name, wide) = self.one_of(&NO_WELLS);
+        // Number 0 might be taken for that of a struck record.
+        let struck = wells.iter().any(Well::is_struck) && self.between(0, 3) == 0;
+        let (name, wide) = self.one_of(&NO_WELLS[..if struck { 1 } else { NO_WELLS.len() }]);
         given.well = match name {
             "a bit off" => given.well ^ 1 << self.between(0, 15),
             "behind the sheet" => {
@@ -241,11 +245,12 @@ pub fn reach(numbers: &mut Numbers, met: &mut Met) -> Agreed {
     let (shape, wells) = numbers.shaped();
     let mut search = numbers.search(&wells);
     let n = wells.len();
-    if n > 0 {
+    let unstruck: Vec<usize> = (0..n).filter(|&place| !wells[place].is_struck()).collect();
+    if !unstruck.is_empty() {
         let net = Net::new(plan::wells(&search.sheet, n));
-        let one = numbers.some_place(n);
+        let one = unstruck[numbers.some_place(unstruck.len())];
         let far = net.distances(one);
-        let other = numbers.other(&far);
+        let other = numbers.other(&unstruck, &far);
         each_other(&search, &net, [one, other], met)?;
         see_from(met, shape, &search, &net, one, &far);
         search.well = wells[one].number.into();
@@ -254,7 +259,7 @@ pub fn reach(numbers: &mut Numbers, met: &mut Met) -> Agreed {
     for _ in 0..REFUSED {
         let mut spoilt = search.clone();
         let ways = numbers.refuse_search(&mut wells.clone(), &mut spoilt);
-        if n == 0 || !ways.is_empty() {
+        if unstruck.is_empty() || !ways.is_empty() {
             let net = Net::new(plan::wells(&spoilt.sheet, spoilt.n));
             let number = call(&mut spoilt, &net, met)?;
             see_refused(met, &ways, number);

@@ -16,7 +16,8 @@ pub struct Figures {
 
 #[derive(Debug, Default, PartialEq)]
 pub struct Page {
-    /// One for each record of the batch; none for a producer, and for every record of a faulted sheet.
+    /// One for each record of the batch; none for a producer, for a struck record, which is no injector, and for every
+    /// record of a faulted sheet.
     pub figures: Vec<Option<Figures>>,
     pub sound: usize,
     pub faulted: usize,

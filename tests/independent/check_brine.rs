@@ -2,12 +2,13 @@
 
 use crate::brine::{self, Figures, Page};
 use crate::check::Report;
-use crate::check_plan::{injector, producer};
+use crate::check_plan::{injector, producer, struck};
 use crate::plan::{self, Well, PRODUCER};
 
 pub fn differences(report: &mut Report) {
     small_plants(report);
     faulted_sheets(report);
+    struck_records(report);
     nothing(report);
     largest(report);
     refusals(report);
@@ -97,6 +98,27 @@ fn faulted_sheets(report: &mut Report) {
     let batch = [astray.clone(), last];
     page(report, "an injector next door", &batch, [1, 1, 4_000, 0]);
     page(report, "faulted alone", &[astray], [0, 1, 0, 0]);
+}
+
+/// Struck records before the wells of a sheet, among them and after them, a sheet of nothing else, and one that is
+/// faulted because a record isn't quite struck.
+fn struck_records(report: &mut Report) {
+    let none = (struck(), None);
+    let sound = vec![
+        none,
+        sends(1, 2, &[(5, 1000)]),
+        none,
+        none,
+        takes(5, 1, 2_000, -1_000),
+        none,
+    ];
+    let batch = [vec![none; 3], sound.clone()];
+    page(report, "struck records", &batch, [2, 0, 2_000, 1]);
+    let mut near = sound.clone();
+    near[2].0.note[7] = 1;
+    near[4].1 = None;
+    let batch = [near, sound];
+    page(report, "nearly struck", &batch, [1, 1, 2_000, 1]);
 }
 
 /// No sheets, and sheets without records: alone, and before, between and after others.

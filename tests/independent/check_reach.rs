@@ -2,14 +2,15 @@
 //! as long as its ends are apart, and small sheets on which every chain is tried.
 
 use crate::check::{Numbers, Report};
-use crate::check_plan::{injector, producer};
-use crate::plan::{Well, INJECTOR};
+use crate::check_plan::{injector, producer, struck};
+use crate::plan::{Rule, Well, INJECTOR};
 use crate::reach::{Asked, Net, MOST_HOPS, UNJOINED};
 
 pub fn differences(report: &mut Report, numbers: &mut Numbers) {
     plant(report);
     lines(report, numbers);
     chains(report, numbers);
+    struck_records(report);
     judged(report);
 }
 
@@ -148,15 +149,51 @@ fn chains(report: &mut Report, numbers: &mut Numbers) {
     }
 }
 
+/// A producer and its injectors, with struck records before them, between them and after them: no chain joins those,
+/// and number 0 is absent however many there are.
+fn struck_records(report: &mut Report) {
+    let wells = vec![
+        struck(),
+        injector(8, 0),
+        struck(),
+        producer_of(3, &[8, 9]),
+        injector(9, 0),
+        struck(),
+    ];
+    let net = Net::new(wells);
+    let places = [0, 3, 8, 9, 1 << 16].map(|number| net.place(number));
+    report.same(
+        || "places beside struck records".into(),
+        (net.fault, places),
+        (None, [None, Some(3), Some(1), Some(4), None]),
+    );
+    let no = UNJOINED;
+    for (from, wanted) in [(1, [no, 0, no, 1, 2, no]), (3, [no, 1, no, 0, 1, no])] {
+        let what = || format!("far from {from} beside struck records");
+        report.same(what, net.distances(from), wanted.to_vec());
+    }
+    let near = Well {
+        rate: 1,
+        ..struck()
+    };
+    let net = Net::new(vec![struck(), near]);
+    report.same(
+        || "nearly struck".into(),
+        (net.fault, net.place(0)),
+        (Some((1, Rule::Number)), Some(1)),
+    );
+}
+
 /// Each refusal at its edge, and which hold together; every number is judged whole.
 fn judged(report: &mut Report) {
     let most = usize::MAX;
     let wraps = most / 40 + 1;
     let sound = Net::new(vec![producer_of(3, &[65_535]), injector(65_535, 0)]);
     let unsound = Net::new(vec![producer_of(3, &[65_535]), injector(65_534, 0)]);
+    let both_struck = Net::new(vec![struck(); 2]);
     let none = Net::new(vec![]);
     // Bytes of the sheet, records, well, hops, bytes for the marks.
-    let cases: [(&Net, [usize; 5], &[u64]); 29] = [
+    let cases: [(&Net, [usize; 5], &[u64]); 32] = [
         (&sound, [80, 2, 3, 0, 2], &[]),
         (&sound, [81, 2, 65_535, 3, 3], &[]),
         (&sound, [most, 2, 3, 3, most], &[]),
@@ -177,6 +214,9 @@ fn judged(report: &mut Report) {
         (&sound, [80, 2, most, 3, 2], &[21]),
         (&sound, [80, 2, 3, 3, 1], &[22]),
         (&sound, [80, 2, 3, 3, 0], &[22]),
+        (&both_struck, [80, 2, 0, 0, 2], &[21]),
+        (&both_struck, [80, 2, 3, 3, 2], &[21]),
+        (&both_struck, [80, 2, 0, 3, 1], &[21, 22]),
         (&none, [0, 0, 3, 3, 0], &[21]),
         (&none, [0, 0, 0, 0, 0], &[21]),
         (&none, [0, 0, 3, 4, 0], &[19, 21]),

@@ -1,6 +1,6 @@
 //! The check of content (document 02, "A sheet that makes sense") by the plainest means: each record is
 //! read into a well, and each rule is asked of it, and of every other well where the rule speaks of
-//! the sheet.
+//! the sheet. A struck record is read too, as the well that has nothing, and is asked nothing.
 
 use crate::sheet::Record;
 use std::fmt;
@@ -14,14 +14,15 @@ pub struct Link {
     pub share: u16,
 }
 
-/// A record but for its note.
-#[derive(Clone, Copy, Debug, PartialEq)]
+/// A record, field by field. Its note means nothing, but a record with one isn't struck.
+#[derive(Clone, Copy, Debug, Default, PartialEq)]
 pub struct Well {
     pub number: u16,
     pub kind: u8,
     pub link_count: u8,
     pub rate: u32,
     pub links: [Link; 4],
+    pub note: [u8; 16],
 }
 
 /// The rules, in the document's order.
@@ -78,7 +79,13 @@ impl Well {
             link_count: record[3],
             rate: u32::from_be_bytes([record[4], record[5], record[6], record[7]]),
             links: [link(8), link(12), link(16), link(20)],
+            note: record[24..].try_into().unwrap(),
         }
+    }
+
+    /// No byte of the record is set.
+    pub fn is_struck(&self) -> bool {
+        *self == Well::default()
     }
 
     /// The links that the link count takes in, of which there are four at most.
@@ -130,14 +137,14 @@ fn keeps(wells: &[Well], place: usize, rule: Rule) -> bool {
         Rule::UnusedLinks => well.unused().iter().all(|&link| link == Link::default()),
         Rule::Repeat => wells[..place]
             .iter()
-            .all(|earlier| earlier.number != well.number),
+            .all(|earlier| earlier.number != well.number || earlier.is_struck()),
     }
 }
 
-/// Every rule that the well at this place breaks, in order.
+/// Every rule that the well at this place breaks, in order. A struck record is exempt from all.
 pub fn broken(wells: &[Well], place: usize) -> Vec<Rule> {
-    let rules = Rule::ALL.into_iter();
-    rules.filter(|&rule| !keeps(wells, place, rule)).collect()
+    let asked = Rule::ALL.into_iter().filter(|_| !wells[place].is_struck());
+    asked.filter(|&rule| !keeps(wells, place, rule)).collect()
 }
 
 /// The lowest faulty place and the first rule broken there; none where the sheet is sound.

@@ -48,10 +48,10 @@ impl Net {
         }
     }
 
-    /// The place of the record with this number.
+    /// The place of the record with this number. A struck one is no well, and number 0 isn't its own.
     pub fn place(&self, well: usize) -> Option<usize> {
-        let mut numbers = self.wells.iter().map(|well| usize::from(well.number));
-        numbers.position(|number| number == well)
+        let has = |one: &Well| !one.is_struck() && usize::from(one.number) == well;
+        self.wells.iter().position(has)
     }
 
     /// Every refusal that holds, in the request's order. Of a sheet that isn't there whole, the wells are those that
