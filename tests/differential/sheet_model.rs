@@ -1,11 +1,11 @@
 //! The sheet calls by document 01's text, and many changes in one save by document 02's: from what is lent to
 //! the answer and what the buffers then hold, refusals included. Marks are taken as they are found, true or false.
 
-use crate::batch::{self, Lengths};
+use crate::batch;
 use crate::luffa::{Luffa, CODES};
 use crate::mend_model::Mending;
 use crate::model::{bytes_of, digest_bytes, known};
-use crate::sheet::{MARK_WORDS, MOST, RECORD_BYTES};
+use crate::sheet::{Lengths, MARK_WORDS, MOST, RECORD_BYTES};
 
 #[derive(Clone, Copy, Debug, PartialEq)]
 pub enum Call {
@@ -78,10 +78,9 @@ fn batch_refusals(given: &Given) -> Vec<u64> {
         sheet: given.sheet.len(),
         n: given.n,
         marks: given.marks.len(),
-        records: given.records.len(),
         claim: given.claim.len(),
     };
-    batch::refusals(given.code, &given.places, lent)
+    batch::refusals(given.code, &given.places, given.records.len(), lent)
 }
 
 /// Every refusal that holds, in the call's order, but for 11, which is judged only where no other holds.

@@ -1,24 +1,12 @@
 //! Many changes in one save (document 02), all at once: the new records are laid over the old ones, each at its
 //! place, and what is then read from above is hashed whole. No change follows another, and none is made by its turn.
 
-use crate::luffa::CODES;
 use crate::output::holding;
-use crate::sheet::{no_marks, no_sheet, Record, Saved, Sheet, GROUP, RECORD_BYTES};
+use crate::sheet::{Lengths, Record, Saved, Sheet, GROUP, RECORD_BYTES};
 use std::collections::{BTreeMap, BTreeSet};
 
 /// The most changes that a save takes.
 pub const MOST_CHANGES: usize = 64;
-
-/// How much is lent, beside the places: bytes, and words of the marks. A sheet is of n records.
-#[derive(Clone, Copy, Debug)]
-pub struct Lengths {
-    pub out: usize,
-    pub sheet: usize,
-    pub n: usize,
-    pub marks: usize,
-    pub records: usize,
-    pub claim: usize,
-}
 
 /// 14: too many, or they aren't what they are once sorted, each of them kept once.
 fn no_set(places: &[usize]) -> bool {
@@ -31,21 +19,20 @@ fn no_place(n: usize, places: &[usize]) -> bool {
     places.iter().max().is_some_and(|&highest| highest >= n)
 }
 
-/// Every refusal that holds, in the request's order, but for 11, for which the sheet is hashed. An unknown code
-/// has no digest, and so no length for one is wrong.
-pub fn refusals(code: usize, places: &[usize], lent: Lengths) -> Vec<u64> {
-    let known = code.checked_sub(1).and_then(|k| CODES.get(k));
-    let digest = known.map(|(_, words)| 4 * words);
+/// Every refusal that holds, in the request's order, but for 11, for which the sheet is hashed. The new records have so
+/// many bytes.
+pub fn refusals(code: usize, places: &[usize], records: usize, lent: Lengths) -> Vec<u64> {
     let bytes = RECORD_BYTES as u128 * places.len() as u128;
+    let ([width, out, sheet, marks], claim) = lent.judged(code);
     holding([
-        (1, digest.is_none()),
-        (2, digest.is_some_and(|bytes| lent.out < bytes)),
-        (5, no_sheet(lent.n, lent.sheet)),
-        (6, no_marks(lent.n, lent.marks)),
+        width,
+        out,
+        sheet,
+        marks,
         (14, no_set(places)),
         (7, no_place(lent.n, places)),
-        (9, lent.records as u128 != bytes),
-        (10, digest.is_some_and(|bytes| lent.claim != bytes)),
+        (9, records as u128 != bytes),
+        claim,
     ])
 }
 

@@ -1,10 +1,10 @@
 //! Many changes in one save by what document 02 says of it: against the same changes saved one by one with
 //! sheet.rs, against document 01's formulas, and the refusals against lists worked out by hand.
 
-use crate::batch::{refusals, save, Lengths, MOST_CHANGES};
+use crate::batch::{refusals, save, MOST_CHANGES};
 use crate::check::{record, sheet, Numbers, Report};
 use crate::luffa::CODES;
-use crate::sheet::{Record, Saved, Sheet, MOST};
+use crate::sheet::{Lengths, Record, Saved, Sheet, MOST};
 
 pub fn differences(report: &mut Report, numbers: &mut Numbers) {
     every_set(report, numbers);
@@ -284,10 +284,10 @@ fn judged(report: &mut Report) {
             sheet,
             n,
             marks,
-            records,
             claim,
         };
-        let what = || format!("{places:x?} at code {code}, {lent:?}");
-        report.same(what, &refusals(code, places, lent)[..], wanted);
+        let what = || format!("{places:x?} at code {code}, {records} bytes, {lent:?}");
+        let got = refusals(code, places, records, lent);
+        report.same(what, &got[..], wanted);
     }
 }

@@ -45,6 +45,32 @@ pub fn no_marks(n: usize, words: usize) -> bool {
     (words as u128) < MARK_WORDS as u128 * marks
 }
 
+/// How much any save is lent, beside what is its own: bytes, and words of the marks. A sheet is of n records.
+#[derive(Clone, Copy, Debug)]
+pub struct Lengths {
+    pub out: usize,
+    pub sheet: usize,
+    pub n: usize,
+    pub marks: usize,
+    pub claim: usize,
+}
+
+impl Lengths {
+    /// Whether 1, 2, 5 and 6 hold, which come first in every save, and 10, which comes last. An unknown code has no
+    /// digest, and so no length for one is wrong.
+    pub fn judged(self, code: usize) -> ([(u64, bool); 4], (u64, bool)) {
+        let known = code.checked_sub(1).and_then(|k| CODES.get(k));
+        let digest = known.map(|(_, words)| 4 * words);
+        let first = [
+            (1, digest.is_none()),
+            (2, digest.is_some_and(|bytes| self.out < bytes)),
+            (5, no_sheet(self.n, self.sheet)),
+            (6, no_marks(self.n, self.marks)),
+        ];
+        (first, (10, digest.is_some_and(|bytes| self.claim != bytes)))
+    }
+}
+
 impl Sheet {
     /// The digest of the whole sheet, hashed from its first byte on, and how many of the rounds are
     /// run after mark m.
