@@ -6,18 +6,17 @@ use crate::batches::{
     SETS, STALE_CLAIMS, TOO_MANY_CHANGES,
 };
 use crate::histories::words_for;
-use crate::mend_kinds::want_refused;
-use crate::mends::{Way, WAYS};
+use crate::mend_kinds::{want_refused, want_ways};
 use crate::met::Met;
-use crate::model::{digest_bytes, state_words};
+use crate::model::digest_bytes;
 use crate::plan_kinds::{See, LENGTHS};
-use crate::sheet::{GROUP, MARK_WORDS, RECORD_BYTES};
-use crate::sheet_model::{Answer, Given};
+use crate::sheet::{GROUP, RECORD_BYTES};
+use crate::sheet_model::{Answer, Call, Given};
 
-const MARKS: [&str; 2] = ["false", "true"];
+pub const MARKS: [&str; 2] = ["false", "true"];
 
 /// Where the lowest place is.
-const LOWEST: [&str; 4] = [
+pub const LOWEST: [&str; 4] = [
     "after the last group",
     "in the last group",
     "in the first group",
@@ -73,7 +72,7 @@ pub fn see(met: &mut Met, before: &Given, answer: &Answer, true_marks: bool) {
     see(format!("done, {alike} as held"));
 }
 
-fn at(place: usize, n: usize) -> &'static str {
+pub fn at(place: usize, n: usize) -> &'static str {
     LOWEST[match (place / GROUP, n / GROUP) {
         (group, groups) if group == groups => 0,
         (group, groups) if group + 1 == groups => 1,
@@ -97,9 +96,9 @@ fn spread(places: &[usize]) -> &'static str {
 const FEW: usize = 5;
 
 /// In which ways a call was refused.
-pub fn see_refused(met: &mut Met, ways: &[(u64, String)], answer: &Answer) {
+pub fn see_refused(met: &mut Met, call: Call, ways: &[(u64, String)], answer: &Answer) {
     match ways {
-        [(number, way)] if *number == answer.number => met.see(format!("Batch refused: {way}")),
+        [(number, way)] if *number == answer.number => met.see(format!("{call:?} refused: {way}")),
         _ => (),
     }
 }
@@ -124,13 +123,8 @@ fn wanted() -> Vec<String> {
         for spread in SPREADS {
             want(format!("done, {spread}, code {code}"));
         }
-        for way in WAYS {
-            // Code 4 uses all words.
-            if way != Way::Unused || state_words(code) < MARK_WORDS {
-                want(format!("{way:?}, code {code}"));
-            }
-        }
     }
+    want_ways(want);
     for n in 0..=FEW {
         for count in 0..=n {
             want(format!("done, {count} places of {n}"));
@@ -151,10 +145,7 @@ fn wanted() -> Vec<String> {
     for alike in ALIKE {
         want(format!("done, {alike} as held"));
     }
-    want_refused(want);
-    for name in ["a byte", "all"] {
-        want(format!("refused: output {name} short"));
-    }
+    want_refused_save(want);
     for rising in RISING {
         want(format!("refused: {rising}"));
     }
@@ -182,11 +173,19 @@ fn wanted() -> Vec<String> {
             want(format!("refused: records {way} short, {set}"));
         }
     }
+    kinds
+}
+
+/// What any save must meet that has cases of its own.
+pub fn want_refused_save(want: See) {
+    want_refused(want);
+    for name in ["a byte", "all"] {
+        want(format!("refused: output {name} short"));
+    }
     for claim in OTHER_CLAIMS {
         want(format!("refused: claim {claim}"));
     }
     for claim in STALE_CLAIMS {
         want(format!("refused: claim: {claim}"));
     }
-    kinds
 }

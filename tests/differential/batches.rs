@@ -7,6 +7,7 @@ use crate::batch_kinds::{see, see_refused};
 use crate::calls;
 use crate::histories::{words_for, History};
 use crate::luffa;
+use crate::mend_model::Mending;
 use crate::mends::{Way, WAYS};
 use crate::met::Met;
 use crate::model::{bytes_of, digest_bytes};
@@ -225,8 +226,8 @@ impl Numbers {
         format!("records {way} {name}, {set}")
     }
 
-    /// Makes the right claim another one of its length. The last two are at times the right one too.
-    fn stale_claim(&mut self, given: &mut Given) -> String {
+    /// Makes the right claim of a call another one of its length. The last two are at times the right one too.
+    fn stale_claim(&mut self, call: Call, given: &mut Given) -> String {
         let way = self.one_of(&STALE_CLAIMS);
         let last = given.claim.len() - 1;
         let bit = 1 << self.between(0, 7);
@@ -237,7 +238,7 @@ impl Numbers {
             "any bytes" => given.claim = self.bytes(last + 1),
             "the digest that it would leave" => {
                 let mut saved = given.clone();
-                sheet_model::answer(Call::Batch, &mut saved);
+                sheet_model::answer(call, &mut saved);
                 given.claim = saved.out[..=last].to_vec();
             }
             _ => {
@@ -262,7 +263,10 @@ impl Numbers {
                 format!("output {name} short")
             }
             5 => {
-                let room = |n| given.marks.resize(words_for(n), 0);
+                let room = |n| {
+                    given.marks.resize(words_for(n), 0);
+                    given.list.resize(n, 0);
+                };
                 self.refuse_sheet(&mut given.n, &mut given.sheet, room)
             }
             6 => self.refuse_marks(n, &mut given.marks),
@@ -283,26 +287,33 @@ impl Numbers {
         }
     }
 
-    /// Has this refusal of a batch hold, and says how.
-    fn refuse_by(&mut self, number: u64, n: usize, given: &mut Given) -> String {
+    /// Has this refusal of a batch or of closing up hold, and says how.
+    fn refuse_by(&mut self, number: u64, call: Call, n: usize, given: &mut Given) -> String {
         match number {
             7 => self.refuse_place(n, given),
             9 => self.refuse_records(given),
-            11 => self.stale_claim(given),
+            11 => self.stale_claim(call, given),
             14 => self.refuse_set(n, given),
+            23 => self.refuse_list(n, given),
             _ => self.refuse_save(number, n, given),
         }
     }
 
-    /// Has one refusal hold, or some of them, and says how.
-    fn refuse_some(&mut self, n: usize, given: &mut Given) -> Vec<(u64, String)> {
-        let one = 1 << self.between(0, REFUSALS.len() - 1);
-        let some = self.between(1, (1 << REFUSALS.len()) - 1);
+    /// Has one of these refusals hold, or some of them, in turn, and says how.
+    pub fn refuse_some(
+        &mut self,
+        refusals: &[u64],
+        call: Call,
+        given: &mut Given,
+    ) -> Vec<(u64, String)> {
+        let n = given.n;
+        let one = 1 << self.between(0, refusals.len() - 1);
+        let some = self.between(1, (1 << refusals.len()) - 1);
         let hold = self.one_of(&[one, some]);
         let mut ways = vec![];
-        for (k, number) in REFUSALS.into_iter().enumerate() {
+        for (k, &number) in refusals.iter().enumerate() {
             if hold >> k & 1 == 1 {
-                ways.push((number, self.refuse_by(number, n, given)));
+                ways.push((number, self.refuse_by(number, call, n, given)));
             }
         }
         ways
@@ -322,10 +333,22 @@ const REFUSALS: [u64; 9] = [11, 14, 7, 9, 10, 2, 5, 6, 1];
 /// The calls on a sheet that are refused, before one is done.
 const REFUSED: usize = 4;
 
-/// A sheet whose marks are at times spoiled, what is refused of a batch of changes to it, and then the batch.
+/// A batch of changes to a sheet, after what is refused of it.
 pub fn batch(numbers: &mut Numbers, met: &mut Met) -> Agreed {
     let n = numbers.changed();
-    let mut held = numbers.sheet_and_marks(n);
+    let held = numbers.sheet_and_marks(n);
+    save(Call::Batch, &REFUSALS, held, numbers, met)
+}
+
+/// A sheet whose marks are at times spoiled first: what is refused of a save of it, each time one of these refusals or
+/// some of them, and then the save.
+pub fn save(
+    call: Call,
+    refusals: &[u64],
+    mut held: Mending,
+    numbers: &mut Numbers,
+    met: &mut Met,
+) -> Agreed {
     let any = numbers.one_of(&WAYS);
     let way = numbers.one_of(&[Way::Not, any]);
     numbers.spoil_marks(way, &mut held);
@@ -334,14 +357,15 @@ pub fn batch(numbers: &mut Numbers, met: &mut Met) -> Agreed {
     given.claim = sheet_model::held(&given).0;
     for _ in 0..REFUSED {
         let mut refused = given.clone();
-        let ways = numbers.refuse_some(n, &mut refused);
-        let answer = history.clone().call(Call::Batch, refused, met)?;
-        see_refused(met, &ways, &answer);
+        let ways = numbers.refuse_some(refusals, call, &mut refused);
+        let answer = history.clone().call(call, refused, met)?;
+        see_refused(met, call, &ways, &answer);
     }
-    if !given.places.is_empty() {
-        met.see(format!("Batch {way:?}, code {}", given.code));
+    // An empty batch doesn't work on from any mark.
+    if call != Call::Batch || !given.places.is_empty() {
+        met.see(format!("{call:?} {way:?}, code {}", given.code));
     }
-    let answer = history.call(Call::Batch, given, met)?;
+    let answer = history.call(call, given, met)?;
     assert_eq!(answer.number, 0);
     Ok(())
 }

@@ -88,6 +88,20 @@ extern "C" {
         out: *mut u8,
         out_len: usize,
     ) -> Answer;
+    fn luffa_sheet_close_up(
+        code: usize,
+        sheet: *mut u8,
+        sheet_len: usize,
+        n: usize,
+        marks: *mut u32,
+        marks_len: usize,
+        claim: *const u8,
+        claim_len: usize,
+        places: *mut u16,
+        places_len: usize,
+        out: *mut u8,
+        out_len: usize,
+    ) -> Answer;
     fn luffa_sheet_change_own(
         code: usize,
         sheet: *mut u8,
@@ -249,10 +263,11 @@ pub fn agree<T: PartialEq + Debug>(
     Err(format!("{call}\n{different}"))
 }
 
-/// What the sheet calls are lent: the sheet, the marks, the record, the places and their records, the claim and
-/// the output.
-fn lend(given: &Given) -> [Lent; 7] {
+/// What the sheet calls are lent: the sheet, the marks, the record, the places and their records, the claim, the list
+/// of old places and the output.
+fn lend(given: &Given) -> [Lent; 8] {
     let places = given.places.iter().map(|place| place.to_ne_bytes());
+    let list = given.list.iter().map(|place| place.to_ne_bytes());
     [
         Lent::new(&given.sheet),
         Lent::words(&given.marks),
@@ -260,14 +275,16 @@ fn lend(given: &Given) -> [Lent; 7] {
         Lent::elements(places.collect()),
         Lent::new(&given.records),
         Lent::new(&given.claim),
+        Lent::elements(list.collect()),
         Lent::new(&given.out),
     ]
 }
 
 /// The archive's answer, and what was lent as it left it.
-fn archive(call: Call, given: &Given) -> (Answer, [Lent; 7]) {
+fn archive(call: Call, given: &Given) -> (Answer, [Lent; 8]) {
     let mut lent = lend(given);
-    let [sheet, marks, record, places, records, claim, out] = lent.each_mut().map(Lent::pointer);
+    let [sheet, marks, record, places, records, claim, list, out] =
+        lent.each_mut().map(Lent::pointer);
     let (code, n) = (given.code, given.n);
     let sheet_len = given.sheet.len();
     let (marks, marks_len) = (marks.cast(), given.marks.len());
@@ -275,6 +292,7 @@ fn archive(call: Call, given: &Given) -> (Answer, [Lent; 7]) {
     let (places, places_len) = (places.cast(), given.places.len());
     let records_len = given.records.len();
     let claim_len = given.claim.len();
+    let (list, list_len) = (list.cast(), given.list.len());
     let out_len = given.out.len();
     #[rustfmt::skip]
     let answer = unsafe {
@@ -297,6 +315,10 @@ fn archive(call: Call, given: &Given) -> (Answer, [Lent; 7]) {
             Call::Drop => luffa_sheet_drop(
                 code, sheet, sheet_len, n, marks, marks_len, claim, claim_len, out, out_len,
             ),
+            Call::CloseUp => luffa_sheet_close_up(
+                code, sheet, sheet_len, n, marks, marks_len, claim, claim_len, list, list_len, out,
+                out_len,
+            ),
         }
     };
     (answer, lent)
@@ -304,10 +326,12 @@ fn archive(call: Call, given: &Given) -> (Answer, [Lent; 7]) {
 
 /// A call that the archive makes alone, and what it left.
 pub fn alone(call: Call, given: &mut Given) -> Answer {
-    let (answer, [sheet, marks, .., out]) = archive(call, given);
+    let (answer, [sheet, marks, .., list, out]) = archive(call, given);
     given.sheet = sheet.inside().to_vec();
     let words = marks.inside().as_chunks().0.iter();
     given.marks = words.map(|&word| u32::from_ne_bytes(word)).collect();
+    let places = list.inside().as_chunks().0.iter();
+    given.list = places.map(|&place| u16::from_ne_bytes(place)).collect();
     given.out = out.inside().to_vec();
     answer
 }
@@ -322,7 +346,7 @@ pub fn sheet(call: Call, given: &mut Given) -> Result<Answer, String> {
     let after = lend(given);
     let what = format!(
         "{call:?} at code {code}, n = {n}, place {place}: buffer 0 the sheet, 1 the marks, 2 the record, \
-         3 the places, 4 their records, 5 the claim, 6 the output"
+         3 the places, 4 their records, 5 the claim, 6 the list of old places, 7 the output"
     );
     agree_lent(&what, &before, got, want, lent, &after)
 }
@@ -380,7 +404,7 @@ fn archive_own(call: Call, given: &Given, own: &Own) -> (OwnAnswer, [Lent; 6]) {
                 code, sheet, sheet_len, n, marks, marks_len, claim, claim_len, own_n, own, own_len,
                 out, out_len,
             ),
-            Call::Build | Call::Batch => panic!("{call:?} has no form with own marks"),
+            Call::Build | Call::Batch | Call::CloseUp => panic!("{call:?} has no form with own marks"),
         }
     };
     (answer, lent)

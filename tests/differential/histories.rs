@@ -9,21 +9,23 @@ use crate::met::{answer_kinds, Met};
 use crate::model::{digest_bytes, state_words};
 use crate::own::Own;
 use crate::own_model;
-use crate::sheet::{Saved, Sheet, MARK_WORDS, MOST, RECORD_BYTES};
+use crate::sheet::{Mark, Saved, Sheet, MARK_WORDS, MOST, RECORD_BYTES};
 use crate::sheet_model::{held, refusals, Answer, Call, Given};
-use crate::{batch, batches, calls, owns};
+use crate::{batch, batches, calls, close_up, close_up_kinds, close_ups, owns};
 use crate::{Agreed, Numbers};
 use std::cmp::Ordering::Equal;
 
-const CALLS: [Call; 5] = [
+const CALLS: [Call; 6] = [
     Call::Build,
     Call::Change,
     Call::Append,
     Call::Drop,
     Call::Batch,
+    Call::CloseUp,
 ];
 
-/// The calls whose arguments are spoiled here. Batches have cases of their own for that, in batches.rs.
+/// The calls whose arguments are spoiled here. Batches and closing up have cases of their own for that, in batches.rs
+/// and close_ups.rs.
 const SPOILED: &[Call] = CALLS.split_at(4).0;
 
 impl Met {
@@ -117,6 +119,8 @@ fn wanted() -> Vec<String> {
                 "stale, last byte",
                 "done, marks mended",
                 "stale, marks mended",
+                "done, closed up",
+                "stale, closed up",
             ] {
                 kinds.push(format!("{call:?} {what}"));
             }
@@ -155,6 +159,7 @@ fn numbers_of(call: Call) -> &'static [u64] {
         Call::Batch => &[0, 1, 2, 5, 6, 14, 7, 9, 10, 11],
         Call::Append => &[0, 1, 2, 5, 6, 8, 9, 10, 11],
         Call::Drop => &[0, 1, 2, 5, 6, 7, 10, 11],
+        Call::CloseUp => &[0, 1, 2, 5, 6, 23, 10, 11],
     }
 }
 
@@ -170,6 +175,8 @@ pub struct History {
     digest: Vec<u8>,
     /// Whether the marks are true because they were mended.
     mended: bool,
+    /// Whether struck records have been closed up.
+    closed_up: bool,
     /// What each planner has seen last.
     seen: [Seen; 2],
 }
@@ -205,8 +212,8 @@ impl Numbers {
     }
 }
 
-/// A sheet of any bytes, with buffers that are just large enough or larger. Its marks are any words,
-/// and so is what the planners have seen.
+/// A sheet of any bytes, at times with struck records, and with buffers that are just large enough or larger. Its marks
+/// are any words, and so is what the planners have seen.
 fn any_sheet(numbers: &mut Numbers) -> History {
     let n = numbers.records();
     let room = n + numbers.one_of(&[0, 1, 1, 2, 6]);
@@ -215,14 +222,19 @@ fn any_sheet(numbers: &mut Numbers) -> History {
     let marks = words_for(room) + numbers.one_of(&[0, 0, 0, 1, 39]);
     let code = numbers.code();
     let d = digest_bytes(code);
+    let mut sheet = numbers.bytes(sheet);
+    if numbers.between(0, 1) == 0 {
+        numbers.strike_any(&mut sheet[..RECORD_BYTES * n]);
+    }
     History {
         code,
         n,
-        sheet: numbers.bytes(sheet),
+        sheet,
         marks: numbers.words(marks),
         plain: None,
         digest: vec![],
         mended: false,
+        closed_up: false,
         seen: [d, d].map(|d| Seen {
             digest: numbers.bytes(d),
             ..Seen::default()
@@ -230,10 +242,9 @@ fn any_sheet(numbers: &mut Numbers) -> History {
     }
 }
 
-/// The first mark of which the words that the code uses aren't those of the plain sheet.
-fn untrue(plain: &Sheet, marks: &[u32]) -> Option<usize> {
-    let used = state_words(plain.code);
-    let truth = plain.marks();
+/// The first mark of which the words that the code uses aren't the true ones.
+fn untrue(code: usize, truth: &[Mark], marks: &[u32]) -> Option<usize> {
+    let used = state_words(code);
     (0..truth.len()).find(|&m| marks[MARK_WORDS * m..][..used] != truth[m][..used])
 }
 
@@ -241,7 +252,7 @@ impl History {
     /// A sheet and its marks as they were found, of which no planner knows the digest.
     pub fn found(held: Mending) -> History {
         let plain = held.plain();
-        let true_marks = untrue(&plain, &held.marks).is_none();
+        let true_marks = untrue(held.code, &plain.marks(), &held.marks).is_none();
         History {
             code: held.code,
             n: held.n,
@@ -250,16 +261,22 @@ impl History {
             plain: true_marks.then_some(plain),
             digest: vec![],
             mended: false,
+            closed_up: false,
             seen: Default::default(),
         }
     }
 
-    /// A new record for the place: any bytes, or so many times in ten those held.
+    /// A new record for the place: any bytes, or so many times in ten those held. Now and then it strikes the well, or
+    /// nearly so.
     fn record(&self, numbers: &mut Numbers, place: usize, times: usize) -> Vec<u8> {
         let mut held = self.sheet[..RECORD_BYTES * self.n].chunks(RECORD_BYTES);
         match held.nth(place) {
             Some(held) if numbers.between(1, 10) <= times => held.to_vec(),
-            _ => numbers.bytes(RECORD_BYTES),
+            _ => match numbers.between(0, 7) {
+                0 => vec![0; RECORD_BYTES],
+                1 => numbers.nearly_struck().to_vec(),
+                _ => numbers.bytes(RECORD_BYTES),
+            },
         }
     }
 
@@ -290,6 +307,7 @@ impl History {
             places,
             records,
             claim: self.seen[planner].digest.clone(),
+            list: numbers.list(self.n),
             out: numbers.bytes(out),
         }
     }
@@ -300,16 +318,23 @@ impl History {
         let hold = refusals(call, &given);
         let answer = calls::sheet(call, &mut given)?;
         met.note(call, &before, answer.number, &hold, self.plain.is_none());
-        if call == Call::Batch {
-            batches::judge(&before, &given, &answer, self.plain.is_some(), met)?;
+        let true_marks = self.plain.is_some();
+        match (call, answer.number) {
+            (Call::Batch, _) => batches::judge(&before, &given, &answer, true_marks, met)?,
+            (Call::CloseUp, 0) => close_ups::judge(&before, &given, &answer)?,
+            _ => (),
         }
-        if self.mended {
+        if call == Call::CloseUp {
+            close_up_kinds::see(met, &before, &given, &answer, true_marks);
+        }
+        for (holds, after) in [(self.mended, "marks mended"), (self.closed_up, "closed up")] {
             match answer.number {
-                0 => met.see(format!("{call:?} done, marks mended")),
-                11 => met.see(format!("{call:?} stale, marks mended")),
+                0 if holds => met.see(format!("{call:?} done, {after}")),
+                11 if holds => met.see(format!("{call:?} stale, {after}")),
                 _ => (),
             }
         }
+        self.closed_up |= call == Call::CloseUp && given.n < before.n;
         self.take_over(call, &before, &given, &hold, answer)?;
         Ok(answer)
     }
@@ -356,17 +381,24 @@ impl History {
             self.mended = false;
         }
         match hold {
-            [] | [7] | [14] | [14, 7] => self.plain_agrees(call, before, &answer, &given.out),
+            [] | [7] | [14] | [14, 7] => self.plain_agrees(call, before, &answer, given),
             _ => Ok(()),
         }
     }
 
-    /// The plain sheet does the same: its answer, its records, its digest and the used words of all
-    /// marks must be those left.
-    fn plain_agrees(&mut self, call: Call, before: &Given, answer: &Answer, out: &[u8]) -> Agreed {
+    /// The plain sheet does the same: its answer, its records, the old places of those that are closed up, its digest
+    /// and the used words of all marks must be those left.
+    fn plain_agrees(
+        &mut self,
+        call: Call,
+        before: &Given,
+        answer: &Answer,
+        after: &Given,
+    ) -> Agreed {
         let Some(plain) = &mut self.plain else {
             return Ok(());
         };
+        let mut places = vec![];
         let claim = &before.claim[..];
         let record = || before.record[..].try_into().unwrap();
         let saved = match call {
@@ -379,6 +411,11 @@ impl History {
             }
             Call::Append => plain.append(record(), claim),
             Call::Drop => plain.drop(claim),
+            Call::CloseUp => {
+                let (saved, left) = close_up::save(plain, claim);
+                places = left;
+                saved
+            }
         };
         let (number, rounds) = match saved {
             Saved::Done(rounds) => (0, rounds),
@@ -400,13 +437,21 @@ impl History {
         if self.sheet[..RECORD_BYTES * count] != *plain.records.as_flattened() {
             return Err(format!("{what}: other records than the plain sheet's\n"));
         }
+        let list = after.list.iter().map(|&place| usize::from(place));
+        if !list.take(places.len()).eq(places) {
+            return Err(format!("{what}: other places than the plain sheet's\n"));
+        }
         if number == 0 {
             self.digest = plain.digest();
         }
-        if number == 0 && !out.starts_with(&self.digest) {
+        if number == 0 && !after.out.starts_with(&self.digest) {
             return Err(format!("{what}: another digest than the plain sheet's\n"));
         }
-        match untrue(plain, &self.marks) {
+        let truth = match call {
+            Call::CloseUp => close_up::marks_left(before.n, plain),
+            _ => plain.marks(),
+        };
+        match untrue(before.code, &truth, &self.marks) {
             Some(m) => Err(format!("{what}: mark {m} isn't the plain sheet's\n")),
             None => Ok(()),
         }
@@ -548,7 +593,9 @@ impl History {
     /// One planner's next doing.
     fn step(&mut self, numbers: &mut Numbers, met: &mut Met) -> Agreed {
         let planner = numbers.between(0, 1);
-        let call = numbers.one_of(&CALLS[1..]);
+        // Of large sheets there are few, and each other save of them must be met; close_ups.rs has its own.
+        let calls = if self.n < 1000 { 1..6 } else { 1..5 };
+        let call = numbers.one_of(&CALLS[calls]);
         let d = digest_bytes(self.code);
 
         let used = state_words(self.code);

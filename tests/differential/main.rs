@@ -1,7 +1,7 @@
-//! The archive against a model of its calls over the separately written program, on random messages,
-//! cuts, records, numbers of words, sheets, marks, sets of changes, pairs of desks, planners' own marks, plans, their
-//! wells and batches of them: differential [SEED [CASES]]. Case k of a seed is case 0 of the seed k higher, so that one that
-//! failed is run again alone.
+//! The archive against a model of its calls over the separately written program, on random messages, cuts, records,
+//! numbers of words, sheets, marks, sets of changes, struck wells, pairs of desks, planners' own marks, plans, their
+//! wells and batches of them: differential [SEED [CASES]]. Case k of a seed is case 0 of the seed k higher, so that
+//! one that failed is run again alone.
 
 mod batch_kinds;
 mod batches;
@@ -9,6 +9,8 @@ mod brine_kinds;
 mod brine_model;
 mod brines;
 mod calls;
+mod close_up_kinds;
+mod close_ups;
 mod desks;
 mod hash_calls;
 mod hash_kinds;
@@ -40,6 +42,8 @@ mod batch;
 mod bits;
 #[path = "../independent/brine.rs"]
 mod brine;
+#[path = "../independent/close_up.rs"]
+mod close_up;
 #[path = "../independent/luffa.rs"]
 #[allow(dead_code)]
 mod luffa;
@@ -137,6 +141,9 @@ const MENDS: usize = 2;
 /// The sheets of a case that are changed in many places by one save.
 const BATCHES: usize = 1;
 
+/// The sheets of a case whose struck wells are closed up.
+const CLOSE_UPS: usize = 2;
+
 /// The sheets of a case that two desks change.
 const DESKS: usize = 3;
 
@@ -169,6 +176,9 @@ fn case(seed: u64, met: &mut Met) -> Agreed {
     }
     for _ in 0..BATCHES {
         batches::batch(numbers, met)?;
+    }
+    for _ in 0..CLOSE_UPS {
+        close_ups::close_up(numbers, met)?;
     }
     for _ in 0..DESKS {
         desks::desks(numbers, met)?;
@@ -209,6 +219,7 @@ fn main() {
         output_kinds::print(&met),
         histories::print(&met),
         batch_kinds::print(&met),
+        close_up_kinds::print(&met),
         desks::print(&met),
         own_kinds::print(&met),
         mend_kinds::print(&met),

@@ -120,6 +120,19 @@ pub fn want_no_sheet(want: See) {
     }
 }
 
+/// Each way in which marks are spoiled, at each code.
+pub fn want_ways(want: See) {
+    for (way, code) in WAYS
+        .iter()
+        .flat_map(|way| (1..=4).map(move |code| (way, code)))
+    {
+        // Code 4 uses all words.
+        if *way != Way::Unused || state_words(code) < MARK_WORDS {
+            want(format!("{way:?}, code {code}"));
+        }
+    }
+}
+
 fn wanted() -> Vec<String> {
     let mut kinds = answer_kinds("Mend", &NUMBERS, &NUMBERS[1..]);
     let want: See = &mut |what| kinds.push(format!("Mend {what}"));
@@ -131,12 +144,6 @@ fn wanted() -> Vec<String> {
         want(format!("done, marks {length}"));
     }
     for code in 1..=4 {
-        for way in WAYS {
-            // Code 4 uses all words.
-            if way != Way::Unused || state_words(code) < MARK_WORDS {
-                want(format!("{way:?}, code {code}"));
-            }
-        }
         for (sort, r) in SORTS.iter().flat_map(|sort| (0..4).map(move |r| (sort, r))) {
             want(format!("{sort} wrong, code {code}, n % 4 = {r}"));
         }
@@ -147,6 +154,7 @@ fn wanted() -> Vec<String> {
     for bit in 0..32 {
         want(format!("bit {bit} alone"));
     }
+    want_ways(want);
     want("wrong over 255".into());
     want("first over 255".into());
     want_refused(want);

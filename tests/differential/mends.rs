@@ -118,13 +118,21 @@ impl Numbers {
         }
     }
 
-    /// A sheet of n any records and its true marks; what lies behind either is any bytes and words.
+    /// A sheet of n any records and its true marks.
     pub fn sheet_and_marks(&mut self, n: usize) -> Mending {
-        let sheet = RECORD_BYTES * n + self.one_of(&[0, 0, 0, 1, 39, 40, 200]);
+        let records = self.bytes(RECORD_BYTES * n);
+        self.with_marks(records)
+    }
+
+    /// A sheet of these records and its true marks; what lies behind either is any bytes and words.
+    pub fn with_marks(&mut self, mut sheet: Vec<u8>) -> Mending {
+        let n = sheet.len() / RECORD_BYTES;
+        let more = self.one_of(&[0, 0, 0, 1, 39, 40, 200]);
+        sheet.extend(self.bytes(more));
         let marks = words_for(n) + self.one_of(&[0, 0, 0, 1, 39, 40, 85]);
         let mut given = Mending {
             code: self.code(),
-            sheet: self.bytes(sheet),
+            sheet,
             n,
             marks: self.words(marks),
         };

@@ -1,11 +1,12 @@
-//! The sheet calls by document 01's text, and many changes in one save by document 02's: from what is lent to
-//! the answer and what the buffers then hold, refusals included. Marks are taken as they are found, true or false.
+//! The sheet calls by document 01's text, and many changes in one save and closing up by document 02's: from what is
+//! lent to the answer and what the buffers then hold, refusals included. Marks are taken as they are found, true or
+//! false.
 
-use crate::batch;
 use crate::luffa::{Luffa, CODES};
 use crate::mend_model::Mending;
 use crate::model::{bytes_of, digest_bytes, known};
 use crate::sheet::{Lengths, MARK_WORDS, MOST, RECORD_BYTES};
+use crate::{batch, close_up};
 
 #[derive(Clone, Copy, Debug, PartialEq)]
 pub enum Call {
@@ -14,10 +15,11 @@ pub enum Call {
     Batch,
     Append,
     Drop,
+    CloseUp,
 }
 
-/// What a call is given and lent. A build uses no claim, only a change a place, and only a batch places and their
-/// records.
+/// What a call is given and lent. A build uses no claim, only a change a place, only a batch places and their records,
+/// and only closing up a list for the old places.
 #[derive(Clone)]
 pub struct Given {
     pub code: usize,
@@ -29,6 +31,7 @@ pub struct Given {
     pub places: Vec<usize>,
     pub records: Vec<u8>,
     pub claim: Vec<u8>,
+    pub list: Vec<u16>,
     pub out: Vec<u8>,
 }
 
@@ -45,6 +48,7 @@ impl From<Mending> for Given {
             places: vec![],
             records: vec![],
             claim: vec![],
+            list: vec![],
             out: vec![],
         }
     }
@@ -71,23 +75,25 @@ fn too_small(given: &Given, n: u128) -> (bool, bool) {
     )
 }
 
-/// The refusals of a batch that hold.
-fn batch_refusals(given: &Given) -> Vec<u64> {
-    let lent = Lengths {
+/// How much any save is lent.
+fn lent(given: &Given) -> Lengths {
+    Lengths {
         out: given.out.len(),
         sheet: given.sheet.len(),
         n: given.n,
         marks: given.marks.len(),
         claim: given.claim.len(),
-    };
-    batch::refusals(given.code, &given.places, given.records.len(), lent)
+    }
 }
 
 /// Every refusal that holds, in the call's order, but for 11, which is judged only where no other holds.
 pub fn refusals(call: Call, given: &Given) -> Vec<u64> {
     use Call::*;
-    if call == Batch {
-        return batch_refusals(given);
+    let (code, records) = (given.code, given.records.len());
+    match call {
+        Batch => return batch::refusals(code, &given.places, records, lent(given)),
+        CloseUp => return close_up::refusals(code, given.list.len(), lent(given)),
+        _ => (),
     }
     let n = given.n as u128;
     let digest = known(given.code).then(|| digest_bytes(given.code));
@@ -199,6 +205,21 @@ pub fn answer(call: Call, given: &mut Given) -> Answer {
                 given.marks[mark(q)].fill(0);
             }
             (n - 1, Some((n - 1) / 4))
+        }
+        Call::CloseUp => {
+            let (mut count, mut first) = (0, n);
+            for i in 0..n {
+                if given.sheet[place(i)].iter().all(|&byte| byte == 0) {
+                    first = first.min(i);
+                    continue;
+                }
+                given.sheet.copy_within(place(i), RECORD_BYTES * count);
+                given.list[count] = i as u16;
+                count += 1;
+            }
+            given.sheet[RECORD_BYTES * count..RECORD_BYTES * n].fill(0);
+            given.marks[mark(count / 4).end..mark(q).end].fill(0);
+            (count, Some(first / 4))
         }
     };
     // An empty batch has the digest of the check, and nothing to work on from.
