@@ -180,10 +180,10 @@ impl Numbers {
     /// A number of records: few groups, or now and then about as many as a sheet can have.
     fn closing(&mut self) -> usize {
         match self.between(0, 399) {
-            0 => MOST,
-            1 => self.one_of(&[1021, 1022, 1023, 1023]),
-            2 | 3 => self.between(25, 300),
-            4..=60 => self.one_of(&[0, 1, 3, 4, 4, 5]),
+            0 | 1 => MOST,
+            2 => self.one_of(&[1021, 1022, 1023, 1023]),
+            3 | 4 => self.between(25, 300),
+            5..=60 => self.one_of(&[0, 1, 3, 4, 4, 5]),
             _ => self.between(0, 24),
         }
     }

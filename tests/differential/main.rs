@@ -154,7 +154,7 @@ const OWNS: usize = 1;
 const PLANS: usize = 6;
 
 /// The plans of a case of which it is asked who depends on a well.
-const REACHES: usize = 1;
+const REACHES: usize = 2;
 
 fn case(seed: u64, met: &mut Met) -> Agreed {
     let numbers = &mut Numbers(seed);
