@@ -55,6 +55,10 @@ unfoldable pub misprintsFrom : (block : ℕ) → List (List ℕ) → List Mispri
 misprintsFrom j [] = []
 misprintsFrom j (ps ∷ pss) = misprintsOf j 0 ps (flat (constants j)) ++ misprintsFrom (suc j) pss
 
+-- c_L || c_R of B-1 as the two words that the pseudo code begins with
+abbrev pub halvesOf : ℕ → Pair
+halvesOf t = record { left = t / 2 ^ 32; right = t % 2 ^ 32 }
+
 -- 4.4, pseudo code: t_l and t_r after a step of the generator, SWAP with it
 unfoldable pub pseudoStep : Pair → Pair
 pseudoStep t =
