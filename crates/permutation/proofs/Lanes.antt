@@ -2,6 +2,7 @@
 -- Assumes nothing.
 use mathlib.Core.Path.{_≡_, refl, sym, ap, _∙_}
 use mathlib.Core.List.{List, [], _∷_}
+use mathlib.Core.Bool.{true}
 use Prim.Native.Nat.{ℕ, zero, suc, _^_, _<_}
 use native.Mathlib.Nat.{mul-one, mod-eq-of-lt, div-eq-of-lt}
 use lib.Bits.{or-zero-r}
@@ -10,39 +11,36 @@ use Rattle.definition.specs.declared.State.{State}
 use Rattle.definition.specs.declared.Width.{Width}
 use Rattle.definition.specs.declared.Width.the-variants.{W3, W4, W5}
 use Rattle.definition.specs.Word.{rotl}
-use Rattle.definition.specs.Constant.{constantsFrom, constants}
-use Rattle.definition.specs.Permutation.{tweak, steps, permute}
+use Rattle.definition.specs.Constant.{constants}
+use Rattle.definition.specs.Permutation.{tweak, permute}
 use Rattle.definition.specs.Round.{permuteFrom}
 use Rattle.definition.specs.Width.{blockCount}
 use Rattle.definition.specs.State.{five, blocksIn, stateOf}
-use Rattle.permutation.specs.Lanes.{lane, putLane, lanesOf, stepAt, constantAt, stepped, after, stepFifth, fifthAfter, allAfter, hasFifth}
+use Rattle.permutation.specs.declared.Going.{Going}
+use Rattle.permutation.specs.Lanes.{begun, begunAlone, goOn, after, lane, putLane, lanesOf, stepped, fifthAfter, allAfter, hasFifth}
+use Rattle.permutation.proofs.Generator.{eight-steps, eight-alone}
 
--- step i on the first n lanes
-unfoldable pub runLanes : (i n : ℕ) → List ℕ → List ℕ
-runLanes i zero v = v
-runLanes i (suc n) v = putLane n (runLanes i n v) (stepAt i n (lane n (runLanes i n v)))
+-- a step on the first n lanes
+unfoldable pub runLanes : (n : ℕ) → List ℕ → List ℕ
+runLanes zero v = v
+runLanes (suc n) v = putLane n (runLanes n v) (goOn (lane n (runLanes n v)))
 
-pub all-lanes : (i : ℕ) (a b c d : Block) → runLanes i 4 (lanesOf a b c d) ≡ stepped i (lanesOf a b c d)
+pub all-lanes : (p q r s : Going) → runLanes 4 (lanesOf p q r s) ≡ stepped (lanesOf p q r s)
 unfolding runLanes stepped lanesOf
-all-lanes i a b c d = refl
+all-lanes p q r s = refl
 
--- i steps on each of four blocks, and one more
+-- i steps on each of the four, and one more
 unfoldable pub lanesAfter : (i : ℕ) → List ℕ → List ℕ
-lanesAfter i v = lanesOf (after 0 i (lane 0 v)) (after 1 i (lane 1 v)) (after 2 i (lane 2 v)) (after 3 i (lane 3 v))
+lanesAfter i v = lanesOf (after i (lane 0 v)) (after i (lane 1 v)) (after i (lane 2 v)) (after i (lane 3 v))
 
--- such lanes are made of the four blocks that stand in them
+-- such lanes are made of the four that stand in them
 pub from-lanes : (i : ℕ) (v v₀ : List ℕ) → v ≡ lanesAfter i v₀ → v ≡ lanesOf (lane 0 v) (lane 1 v) (lane 2 v) (lane 3 v)
 unfolding lanesAfter lanesOf
 from-lanes i v v₀ p = rw p refl
 
-pub stepped-after : (i : ℕ) (v v₀ : List ℕ) → v ≡ lanesAfter i v₀ → stepped i v ≡ lanesAfter (suc i) v₀
+pub stepped-after : (i : ℕ) (v v₀ : List ℕ) → v ≡ lanesAfter i v₀ → stepped v ≡ lanesAfter (suc i) v₀
 unfolding lanesAfter stepped after lanesOf
 stepped-after i v v₀ p = rw p refl
-
--- after eight steps Q_j is done, but for its tweak
-pub after-eight : (j : ℕ) (a : Block) → after j 8 a ≡ steps (constants j) a
-unfolding after stepAt constantAt steps constants constantsFrom
-after-eight j a = refl
 
 -- the tweak of block 0 is none, on words of 32 bits
 rotl-zero : (a : ℕ) → a < 2 ^ 32 → rotl 0 a ≡ a
@@ -54,9 +52,14 @@ unfolding tweak
 tweak-zero b h4 h5 h6 h7 =
     rw (rotl-zero (b .a4) h4, rotl-zero (b .a5) h5, rotl-zero (b .a6) h6, rotl-zero (b .a7) h7)
 
-done : (j : ℕ) (b : Block) → after j 8 (tweak j b) ≡ permute j b
-unfolding permute
-done j b = after-eight j (tweak j b)
+-- eight steps from the generator's start are Q_j, but for its tweak
+done : (j : ℕ) (b : Block) → after 8 (begun j (tweak j b)) .a ≡ permute j b
+unfolding permute constants
+done j b = eight-steps j (tweak j b)
+
+done-alone : (j : ℕ) (b : Block) → fifthAfter 8 true (begunAlone j (tweak j b)) .a ≡ permute j b
+unfolding permute constants
+done-alone j b = eight-alone j (tweak j b)
 
 -- eight steps on the tweaked blocks are P on the first w
 pub all-permuted : (w : Width) (s : State) → tweak 0 (s .h0) ≡ s .h0
@@ -65,16 +68,16 @@ pub all-permuted : (w : Width) (s : State) → tweak 0 (s .h0) ≡ s .h0
     (allAfter 8 (hasFifth w)
     (record { h0 = s .h0; h1 = tweak 1 (s .h1); h2 = tweak 2 (s .h2); h3 = tweak 3 (s .h3); h4 = tweak 4 (s .h4) })))
     ≡ stateOf (permuteFrom 0 (blocksIn w s))
-unfolding blocksIn five blockCount permuteFrom allAfter stepFifth fifthAfter after
-all-permuted W3 s z = λ i. stateOf ((ap (after 0 8) (sym z) ∙ done 0 (s .h0)) i ∷ done 1 (s .h1) i ∷ done 2 (s .h2) i ∷ [])
+unfolding blocksIn five blockCount permuteFrom allAfter
+all-permuted W3 s z = λ i. stateOf ((ap (λ (b : Block). after 8 (begun 0 b) .a) (sym z) ∙ done 0 (s .h0)) i ∷ done 1 (s .h1) i ∷ done 2 (s .h2) i ∷ [])
 all-permuted W4 s z =
-    λ i. stateOf ((ap (after 0 8) (sym z) ∙ done 0 (s .h0)) i ∷ done 1 (s .h1) i ∷ done 2 (s .h2) i ∷ done 3 (s .h3) i ∷ [])
+    λ i. stateOf ((ap (λ (b : Block). after 8 (begun 0 b) .a) (sym z) ∙ done 0 (s .h0)) i ∷ done 1 (s .h1) i ∷ done 2 (s .h2) i ∷ done 3 (s .h3) i ∷ [])
 all-permuted W5 s z =
     λ i.
     stateOf
-    ((ap (after 0 8) (sym z) ∙ done 0 (s .h0)) i
+    ((ap (λ (b : Block). after 8 (begun 0 b) .a) (sym z) ∙ done 0 (s .h0)) i
     ∷ done 1 (s .h1) i
     ∷ done 2 (s .h2) i
     ∷ done 3 (s .h3) i
-    ∷ done 4 (s .h4) i
+    ∷ done-alone 4 (s .h4) i
     ∷ [])

@@ -1,3 +1,3 @@
--- Laws of the lanes and of the table of constants.
-pub mod Table
+-- Laws of the generator in the steps, and of the lanes.
+pub mod Generator
 pub mod Lanes

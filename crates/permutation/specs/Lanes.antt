@@ -1,6 +1,7 @@
--- Four blocks side by side: word k of block j stands at 4k + j. And the constants of a step, as the generator gives them.
-use Prim.Native.Nat.{ℕ, zero, suc, _+_}
-use mathlib.Core.List.{List, [], _∷_, _++_, map}
+-- Q_j on its way, a block with the generator beside it, which is two words or one number; and four of them side by side: word k of block j stands
+-- at 4k + j, t_l at 32 + j and t_r at 36 + j.
+use Prim.Native.Nat.{ℕ, zero, suc, _+_, _%_, _^_}
+use mathlib.Core.List.{List, [], _∷_}
 use mathlib.Core.Bool.{Bool, true, false}
 use lib.ListN.{getD, set}
 use Rattle.definition.specs.declared.Block.{Block}
@@ -8,43 +9,90 @@ use Rattle.definition.specs.declared.Pair.{Pair}
 use Rattle.definition.specs.declared.State.{State}
 use Rattle.definition.specs.declared.Width.{Width}
 use Rattle.definition.specs.declared.Width.the-variants.{W3, W4, W5}
-use Rattle.definition.specs.Constant.{constants}
+use Rattle.definition.specs.Constant.{fL, exchanged, initial}
+use Rattle.definition.specs.AppendixB.{halvesOf, pseudoStep}
 use Rattle.definition.specs.Permutation.{step}
+use Rattle.permutation.specs.declared.Going.{Going}
+use Rattle.permutation.specs.declared.Alone.{Alone}
 
--- block j
-abbrev pub lane : ℕ → List ℕ → Block
+-- Q_j before its first step: c_j,L and c_j,R of B-1, and the block; and with c_j,L || c_j,R as one number
+abbrev pub begun : (j : ℕ) → Block → Going
+begun j a = record { t = halvesOf (initial j); a = a }
+
+abbrev pub begunAlone : (j : ℕ) → Block → Alone
+begunAlone j a = record { t = initial j; a = a }
+
+-- one step: two applications of the generator, each of which gives a constant in its t_r
+unfoldable pub goOn : Going → Going
+goOn g =
+    let t1 : Pair = pseudoStep (g .t) in
+    let t2 : Pair = pseudoStep t1 in
+    record { t = t2; a = step (record { left = t1 .right; right = t2 .right }) (g .a) }
+
+unfoldable pub goOnAlone : Alone → Alone
+goOnAlone g =
+    let t1 : ℕ = exchanged (fL (g .t)) in
+    let t2 : ℕ = exchanged (fL t1) in
+    record { t = t2; a = step (record { left = t1 % 2 ^ 32; right = t2 % 2 ^ 32 }) (g .a) }
+
+-- the first i steps
+unfoldable pub after : (i : ℕ) → Going → Going
+after zero g = g
+after (suc i) g = goOn (after i g)
+
+-- 4.4: the generator's number t_L || t_R after n applications, each f_L and then the exchange
+unfoldable pub applied : (n t : ℕ) → ℕ
+applied zero t = t
+applied (suc n) t = exchanged (fL (applied n t))
+
+-- the j-th of four
+abbrev pub lane : ℕ → List ℕ → Going
 lane j v =
     record {
-      a0 = getD v j 0;
-      a1 = getD v (4 + j) 0;
-      a2 = getD v (8 + j) 0;
-      a3 = getD v (12 + j) 0;
-      a4 = getD v (16 + j) 0;
-      a5 = getD v (20 + j) 0;
-      a6 = getD v (24 + j) 0;
-      a7 = getD v (28 + j) 0;
+      t = record { left = getD v (32 + j) 0; right = getD v (36 + j) 0 };
+      a =
+          record {
+            a0 = getD v j 0;
+            a1 = getD v (4 + j) 0;
+            a2 = getD v (8 + j) 0;
+            a3 = getD v (12 + j) 0;
+            a4 = getD v (16 + j) 0;
+            a5 = getD v (20 + j) 0;
+            a6 = getD v (24 + j) 0;
+            a7 = getD v (28 + j) 0;
+          };
     }
 
--- block j put in its lane
-abbrev pub putLane : ℕ → List ℕ → Block → List ℕ
-putLane j v b =
+-- the j-th put in its lane
+abbrev pub putLane : ℕ → List ℕ → Going → List ℕ
+putLane j v g =
     set
     (set
     (set
     (set
-    (set (set (set (set v j (b .a0)) (4 + j) (b .a1)) (8 + j) (b .a2)) (12 + j) (b .a3))
+    (set
+    (set
+    (set (set (set (set v j (g .a .a0)) (4 + j) (g .a .a1)) (8 + j) (g .a .a2)) (12 + j) (g .a .a3))
     (16 + j)
-    (b .a4))
+    (g .a .a4))
     (20 + j)
-    (b .a5))
+    (g .a .a5))
     (24 + j)
-    (b .a6))
+    (g .a .a6))
     (28 + j)
-    (b .a7)
+    (g .a .a7))
+    (32 + j)
+    (g .t .left))
+    (36 + j)
+    (g .t .right)
 
--- the lanes of four blocks
-unfoldable pub lanesOf : Block → Block → Block → Block → List ℕ
-lanesOf a b c d =
+-- the lanes of four
+unfoldable pub lanesOf : Going → Going → Going → Going → List ℕ
+lanesOf p q r s =
+    let a : Block = p .a in
+    let b : Block = q .a in
+    let c : Block = r .a in
+    let d : Block = s .a in
     a .a0 ∷ b .a0 ∷ c .a0 ∷ d .a0
     ∷ a .a1 ∷ b .a1 ∷ c .a1 ∷ d .a1
     ∷ a .a2 ∷ b .a2 ∷ c .a2 ∷ d .a2
@@ -53,54 +101,35 @@ lanesOf a b c d =
     ∷ a .a5 ∷ b .a5 ∷ c .a5 ∷ d .a5
     ∷ a .a6 ∷ b .a6 ∷ c .a6 ∷ d .a6
     ∷ a .a7 ∷ b .a7 ∷ c .a7 ∷ d .a7
+    ∷ p .t .left ∷ q .t .left ∷ r .t .left ∷ s .t .left
+    ∷ p .t .right ∷ q .t .right ∷ r .t .right ∷ s .t .right
     ∷ []
 
--- the constants of step i of Q_j
-unfoldable pub constantAt : (j i : ℕ) → Pair
-constantAt j i = getD (constants j) i (record { left = 0; right = 0 })
+-- one step on each of the four
+unfoldable pub stepped : List ℕ → List ℕ
+stepped v = lanesOf (goOn (lane 0 v)) (goOn (lane 1 v)) (goOn (lane 2 v)) (goOn (lane 3 v))
 
--- step i of Q_j on a block
-unfoldable pub stepAt : (i j : ℕ) → Block → Block
-stepAt i j a = step (constantAt j i) a
+-- one step of a fifth, where there is one, and the first i steps
+abbrev pub stepFifth : Bool → Alone → Alone
+stepFifth true g = goOnAlone g
+stepFifth false g = g
 
--- step i on each of the four lanes
-unfoldable pub stepped : (i : ℕ) → List ℕ → List ℕ
-stepped i v = lanesOf (stepAt i 0 (lane 0 v)) (stepAt i 1 (lane 1 v)) (stepAt i 2 (lane 2 v)) (stepAt i 3 (lane 3 v))
-
--- the first i steps of Q_j
-unfoldable pub after : (j i : ℕ) → Block → Block
-after j zero a = a
-after j (suc i) a = stepAt i j (after j i a)
-
--- the same on a fifth block, where there is one
-unfoldable pub stepFifth : Bool → ℕ → Block → Block
-stepFifth true i e = stepAt i 4 e
-stepFifth false i e = e
-
-unfoldable pub fifthAfter : ℕ → Bool → Block → Block
-fifthAfter zero fifth e = e
-fifthAfter (suc i) fifth e = stepFifth fifth i (fifthAfter i fifth e)
+unfoldable pub fifthAfter : ℕ → Bool → Alone → Alone
+fifthAfter zero fifth g = g
+fifthAfter (suc i) fifth g = stepFifth fifth (fifthAfter i fifth g)
 
 -- the first i steps on five blocks
 unfoldable pub allAfter : ℕ → Bool → State → State
 allAfter i fifth t =
     record {
-      h0 = after 0 i (t .h0);
-      h1 = after 1 i (t .h1);
-      h2 = after 2 i (t .h2);
-      h3 = after 3 i (t .h3);
-      h4 = fifthAfter i fifth (t .h4);
+      h0 = after i (begun 0 (t .h0)) .a;
+      h1 = after i (begun 1 (t .h1)) .a;
+      h2 = after i (begun 2 (t .h2)) .a;
+      h3 = after i (begun 3 (t .h3)) .a;
+      h4 = fifthAfter i fifth (begunAlone 4 (t .h4)) .a;
     }
 
 abbrev pub hasFifth : Width → Bool
 hasFifth W3 = false
 hasFifth W4 = false
 hasFifth W5 = true
-
--- the constants as the code holds them: ten for each step, c_0 of blocks 0 to 4, then c_4 of blocks 0 to 4
-unfoldable pub tableRow : ℕ → List ℕ
-tableRow i =
-    map (λ j. constantAt j i .left) (0 ∷ 1 ∷ 2 ∷ 3 ∷ 4 ∷ []) ++ map (λ j. constantAt j i .right) (0 ∷ 1 ∷ 2 ∷ 3 ∷ 4 ∷ [])
-
-unfoldable pub table : List ℕ
-table = tableRow 0 ++ tableRow 1 ++ tableRow 2 ++ tableRow 3 ++ tableRow 4 ++ tableRow 5 ++ tableRow 6 ++ tableRow 7

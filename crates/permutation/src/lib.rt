@@ -1,161 +1,184 @@
-// The permutation P: Q_j on each block of a state (source, 4.1 and 4.5). Four blocks are stepped side by side.
+// The permutation P: Q_j on each block of a state (source, 4.1 and 4.5), with the generator of the step constants (4.4) beside each block. Four
+// blocks are stepped side by side.
 ghost use mathlib.Core.Path.{_≡_};
-ghost use Prim.Native.Nat.{_<_};
+ghost use Prim.Native.Nat.{_*_, _/_, _%_, _^_, _<_};
+ghost use Rattle.definition.specs.Constant.{fL, exchanged};
 ghost use Rattle.definition.specs.Permutation.{tweak as tweakOf};
 ghost use Rattle.definition.specs.Round.{permuteFrom};
 ghost use Rattle.definition.specs.State.{blocksIn, stateOf};
-ghost use Rattle.permutation.specs.Lanes.{lane as laneOf, putLane, lanesOf, constantAt, stepAt, stepped, table, stepFifth, allAfter, hasFifth};
+ghost use Rattle.definition.specs.AppendixB.{pseudoStep};
+ghost use Rattle.permutation.specs.Lanes.{goOn, goOnAlone, lane as laneOf, putLane, lanesOf, stepped, stepFifth, allAfter, hasFifth};
 use definition::Block;
 use definition::Pair;
 use definition::State;
 use definition::Width;
 
-// The step constants, ten for each step: c_0 of blocks 0 to 4, then c_4 of blocks 0 to 4. That they are the generator's is proved.
-const CONSTANTS: [u32; 80] = [
-    0x303994a6,
-    0xb6de10ed,
-    0xfc20d9d2,
-    0xb213afa5,
-    0xf0d2e9e3,
-    0xe0337818,
-    0x01685f3d,
-    0xe25e72c1,
-    0xe028c9bf,
-    0x5090d577,
-    0xc0e65299,
-    0x70f47aae,
-    0x34552e25,
-    0xc84ebe95,
-    0xac11d7fa,
-    0x441ba90d,
-    0x05a17cf4,
-    0xe623bb72,
-    0x44756f91,
-    0x2d1925ab,
-    0x6cc33a12,
-    0x0707a3d4,
-    0x7ad8818f,
-    0x4e608a22,
-    0x1bcb66f2,
-    0x7f34d442,
-    0xbd09caca,
-    0x5c58a4a4,
-    0x7e8fce32,
-    0xb46496ac,
-    0xdc56983e,
-    0x1c1e8f51,
-    0x8438764a,
-    0x56d858fe,
-    0x6f2d9bc9,
-    0x9389217f,
-    0xf4272b28,
-    0x1e38e2e7,
-    0x956548be,
-    0xd1925ab0,
-    0x1e00108f,
-    0x707a3d45,
-    0xbb6de032,
-    0x343b138f,
-    0x78602649,
-    0xe5a8bce6,
-    0x144ae5cc,
-    0x78e38b9d,
-    0xfe191be2,
-    0x29131ab6,
-    0x7800423d,
-    0xaeb28562,
-    0xedb780c8,
-    0xd0ec4e3d,
-    0x8edae952,
-    0x5274baf4,
-    0xfaa7ae2b,
-    0x27586719,
-    0x3cb226e5,
-    0x0fc053c3,
-    0x8f5b7882,
-    0xbaca1589,
-    0xd9847356,
-    0x2ceb4882,
-    0x3b6ba548,
-    0x26889ba7,
-    0x2e48f1c1,
-    0x36eda57f,
-    0x5944a28e,
-    0x3f014f0c,
-    0x96e1db12,
-    0x40a46f3e,
-    0xa2c78434,
-    0xb3ad2208,
-    0xedae9520,
-    0x9a226e9d,
-    0xb923c704,
-    0x703aace7,
-    0xa1c4c355,
-    0xfc053c31,
+// B-1: the generator at its start, c_L of blocks 0 to 3, then c_R of them; and c_L || c_R of block 4. No step constant is stored.
+const STARTS: [u32; 8] = [
+    0x181cca53,
+    0x5b6f0876,
+    0x7e106ce9,
+    0xbb62f364,
+    0x380cde06,
+    0xf16f8594,
+    0x38979cb0,
+    0x92e93c29,
 ];
 
-// Lanes: word k of block j, of four blocks, stands at 4k + j, so that a step over the four j is one vector operation for each of the
-// step's. This is block j.
-fn lane(v: &[u32; 32], j: usize) -> Block
+const START_4: u64 = 0x9a025047cff2a940;
+
+// 4.4: the generator's polynomial less its heading term, whole, and its halves for t_l and t_r.
+const MASK: u64 = 0xc4d6496c55c61c8d;
+
+const MASK_L: u32 = 0xc4d6496c;
+
+const MASK_R: u32 = 0x55c61c8d;
+
+// One of four Q_j on their way: the generator's t_l and t_r, and the block.
+struct Going {
+    t: Pair,
+    a: Block,
+}
+
+// Q_4 on its way, alone: t_l || t_r in one number, which one register holds, and the block.
+struct Alone {
+    t: u64,
+    a: Block,
+}
+
+// The mask where the highest bit of x is 1, else 0, without a branch: 4.4's `if (c == 1)`.
+fn masked(x: u32, mask: u32) -> u32
+    ensures { λ r. ⌜ r ≡ x / 2 ^ 31 * mask ⌝ }
+{
+    std::num::wrapping_sub_u32(0, x >> 31) & mask
+}
+
+fn masked_whole(x: u64, mask: u64) -> u64
+    ensures { λ r. ⌜ r ≡ x / 2 ^ 63 * mask ⌝ }
+{
+    std::num::wrapping_sub_u64(0, x >> 63) & mask
+}
+
+// One application of the generator to two words, by the pseudo code of 4.4: f_L, then the exchange.
+fn turn(t: Pair) -> Pair
+    ensures { λ r. ⌜ r ≡ pseudoStep t ⌝ }
+{
+    let tl = (t.left << 1) | (t.right >> 31);
+    let tr = t.right << 1;
+    Pair {
+        left: tr ^ masked(t.left, MASK_R),
+        right: tl ^ masked(t.left, MASK_L),
+    }
+}
+
+// The same to one number, by the equations of 4.4.
+fn turn_whole(t: u64) -> u64
+    ensures { λ r. ⌜ r ≡ exchanged (fL t) ⌝ }
+{
+    let f = (t << 1) ^ masked_whole(t, MASK);
+    (f << 32) | (f >> 32)
+}
+
+// t_r of t_l || t_r.
+fn right(t: u64) -> u32
+    ensures { λ r. ⌜ r ≡ t % 2 ^ 32 ⌝ }
+{
+    (t % 4294967296) as u32
+}
+
+// One step of Q_j: the generator applied twice, and its t_r each time the next constant.
+fn go_on(g: Going) -> Going
+    ensures { λ r. ⌜ r ≡ goOn g ⌝ }
+{
+    let t0 = g.t;
+    let a = g.a;
+    let t1 = turn(t0);
+    let t2 = turn(t1);
+    let c = Pair {
+        left: t1.right,
+        right: t2.right,
+    };
+    Going {
+        t: t2,
+        a: step::step(c, a),
+    }
+}
+
+fn go_on_alone(g: Alone) -> Alone
+    ensures { λ r. ⌜ r ≡ goOnAlone g ⌝ }
+{
+    let a = g.a;
+    let t1 = turn_whole(g.t);
+    let t2 = turn_whole(t1);
+    let c = Pair {
+        left: right(t1),
+        right: right(t2),
+    };
+    Alone {
+        t: t2,
+        a: step::step(c, a),
+    }
+}
+
+// Lanes: of four Q_j on their way, word k of block j stands at 4k + j, its t_l at 32 + j and its t_r at 36 + j, so that a step over the
+// four j is one vector operation for each of the step's. This is the j-th.
+fn lane(v: &[u32; 40], j: usize) -> Going
     requires { ⌜ j < 4 ⌝ }
     ensures { λ r. ⌜ r ≡ laneOf j (now (v .entry)) ⌝ }
 {
-    Block {
-        a0: v[j],
-        a1: v[4 + j],
-        a2: v[8 + j],
-        a3: v[12 + j],
-        a4: v[16 + j],
-        a5: v[20 + j],
-        a6: v[24 + j],
-        a7: v[28 + j],
+    Going {
+        t: Pair {
+            left: v[32 + j],
+            right: v[36 + j],
+        },
+        a: Block {
+            a0: v[j],
+            a1: v[4 + j],
+            a2: v[8 + j],
+            a3: v[12 + j],
+            a4: v[16 + j],
+            a5: v[20 + j],
+            a6: v[24 + j],
+            a7: v[28 + j],
+        },
     }
 }
 
-// Block j put in its lane.
-fn put_lane(v: &mut [u32; 32], j: usize, b: Block)
+// The j-th put in its lane.
+fn put_lane(v: &mut [u32; 40], j: usize, g: Going)
     requires { ⌜ j < 4 ⌝ }
-    ensures { λ _. ⌜ now (v .exit) ≡ putLane j (now (v .entry)) b ⌝ }
+    ensures { λ _. ⌜ now (v .exit) ≡ putLane j (now (v .entry)) g ⌝ }
 {
-    v[j] = b.a0;
-    v[4 + j] = b.a1;
-    v[8 + j] = b.a2;
-    v[12 + j] = b.a3;
-    v[16 + j] = b.a4;
-    v[20 + j] = b.a5;
-    v[24 + j] = b.a6;
-    v[28 + j] = b.a7;
+    let t = g.t;
+    let a = g.a;
+    v[j] = a.a0;
+    v[4 + j] = a.a1;
+    v[8 + j] = a.a2;
+    v[12 + j] = a.a3;
+    v[16 + j] = a.a4;
+    v[20 + j] = a.a5;
+    v[24 + j] = a.a6;
+    v[28 + j] = a.a7;
+    v[32 + j] = t.left;
+    v[36 + j] = t.right;
 }
 
-// The constants of step i of Q_j, from the table.
-fn constant(k: &[u32; 80], i: usize, j: usize) -> Pair
-    requires { ⌜ (i < 8) × (j < 5) × (now k ≡ table) ⌝ }
-    ensures { λ r. ⌜ r ≡ constantAt j i ⌝ }
+// One step on the j-th of the four.
+fn step_lane(v: &mut [u32; 40], j: usize)
+    requires { ⌜ j < 4 ⌝ }
+    ensures { λ _. ⌜ now (v .exit) ≡ putLane j (now (v .entry)) (goOn (laneOf j (now (v .entry)))) ⌝ }
 {
-    Pair {
-        left: k[10 * i + j],
-        right: k[10 * i + 5 + j],
-    }
+    let g = go_on(lane(v, j));
+    put_lane(v, j, g);
 }
 
-// Step i on block j of the four.
-fn step_lane(v: &mut [u32; 32], k: &[u32; 80], i: usize, j: usize)
-    requires { ⌜ (i < 8) × (j < 4) × (now k ≡ table) ⌝ }
-    ensures { λ _. ⌜ now (v .exit) ≡ putLane j (now (v .entry)) (stepAt i j (laneOf j (now (v .entry)))) ⌝ }
-{
-    let c = constant(k, i, j);
-    let a = lane(v, j);
-    let b = step::step(c, a);
-    put_lane(v, j, b);
-}
-
-// Step i on all four.
-fn step_lanes(v: &mut [u32; 32], k: &[u32; 80], i: usize)
-    requires { ⌜ (i < 8) × (now k ≡ table) × (now v ≡ lanesOf (laneOf 0 (now v)) (laneOf 1 (now v)) (laneOf 2 (now v)) (laneOf 3 (now v))) ⌝ }
-    ensures { λ _. ⌜ now (v .exit) ≡ stepped i (now (v .entry)) ⌝ }
+// One step on all four.
+fn step_lanes(v: &mut [u32; 40])
+    requires { ⌜ now v ≡ lanesOf (laneOf 0 (now v)) (laneOf 1 (now v)) (laneOf 2 (now v)) (laneOf 3 (now v)) ⌝ }
+    ensures { λ _. ⌜ now (v .exit) ≡ stepped (now (v .entry)) ⌝ }
 {
     for j in 0..4 {
-        step_lane(v, k, i, j);
+        step_lane(v, j);
     }
 }
 
@@ -177,27 +200,26 @@ fn tweak(j: u32, b: Block) -> Block
     }
 }
 
-// Step i of Q_4 on the fifth block, where there is one.
-fn step_fifth(fifth: bool, k: &[u32; 80], i: usize, e: Block) -> Block
-    requires { ⌜ (i < 8) × (now k ≡ table) ⌝ }
-    ensures { λ r. ⌜ r ≡ stepFifth fifth i e ⌝ }
+// One step of Q_4 on the fifth block, where there is one.
+fn step_fifth(fifth: bool, g: Alone) -> Alone
+    ensures { λ r. ⌜ r ≡ stepFifth fifth g ⌝ }
 {
     if fifth {
-        let c = constant(k, i, 4);
-        return step::step(c, e);
+        return go_on_alone(g);
     }
-    e
+    g
 }
 
-// The eight steps: four blocks as lanes, and the fifth, where there is one, beside them.
+// The eight steps, from the generators' starts: four blocks as lanes, and the fifth, where there is one, beside them.
 fn all_steps(fifth: bool, t: State) -> State
     ensures { λ r. ⌜ r ≡ allAfter 8 fifth t ⌝ }
 {
-    let k = CONSTANTS;
+    let k = STARTS;
     let t0 = t.h0;
     let t1 = t.h1;
     let t2 = t.h2;
     let t3 = t.h3;
+    let t4 = t.h4;
     let mut v = [
         t0.a0,
         t1.a0,
@@ -231,18 +253,35 @@ fn all_steps(fifth: bool, t: State) -> State
         t1.a7,
         t2.a7,
         t3.a7,
+        k[0],
+        k[1],
+        k[2],
+        k[3],
+        k[4],
+        k[5],
+        k[6],
+        k[7],
     ];
-    let mut e = t.h4;
-    for i in 0..8 {
-        step_lanes(&mut v, &k, i);
-        e = step_fifth(fifth, &k, i, e);
+    let mut e = Alone { t: START_4, a: t4 };
+    for i in 0..8usize {
+        step_lanes(&mut v);
+        e = step_fifth(fifth, e);
     }
+    let g0 = lane(&v, 0);
+    let g1 = lane(&v, 1);
+    let g2 = lane(&v, 2);
+    let g3 = lane(&v, 3);
+    let h0 = g0.a;
+    let h1 = g1.a;
+    let h2 = g2.a;
+    let h3 = g3.a;
+    let h4 = e.a;
     State {
-        h0: lane(&v, 0),
-        h1: lane(&v, 1),
-        h2: lane(&v, 2),
-        h3: lane(&v, 3),
-        h4: e,
+        h0: h0,
+        h1: h1,
+        h2: h2,
+        h3: h3,
+        h4: h4,
     }
 }
 

@@ -12,10 +12,10 @@ use Rattle.permutation.proofs.step_lanes.Statement.{statement}
 use Rattle.permutation.proofs.step_lanes.Tie as tie
 
 abbrev Inv-loop : tie.InvT-loop
-Inv-loop v₀ k i j₀ v j = (j ≤ 4) × (v ≡ runLanes i j v₀)
+Inv-loop v₀ j₀ v j = (j ≤ 4) × (v ≡ runLanes j v₀)
 
 abbrev μ-loop : tie.MeasureT-loop
-μ-loop v₀ k i j₀ v j = 4 - j
+μ-loop v₀ j₀ v j = 4 - j
 
 loop-holds : tie.Need-loop-holds Inv-loop μ-loop
 unfolding runLanes
@@ -42,8 +42,8 @@ returns c =
     let l = c .before .loop in
     let e : l .j ≡ 4 = omega arith in
     let v = now (a .v) in
-    l .inv .1 ∙ ap (λ (n : ℕ). runLanes (a .i) n v) e
-    ∙ (rw (← (c .before .before .pre .2)) at (all-lanes (a .i) (lane 0 v) (lane 1 v) (lane 2 v) (lane 3 v)))
+    l .inv .1 ∙ ap (λ (n : ℕ). runLanes n v) e
+    ∙ (rw (← (c .before .before .pre)) at (all-lanes (lane 0 v) (lane 1 v) (lane 2 v) (lane 3 v)))
 
 pub step-lanes-spec : {M : Type 1} → statement M
 step-lanes-spec =

@@ -1,0 +1,109 @@
+-- The generator beside a block is that of 4.4: after i steps it has made 2i applications, in one number or in two words, and the steps taken are
+-- those of the constants that it gives.
+-- Assumes nothing.
+use mathlib.Core.Path.{_≡_, refl, sym, ap, _∙_}
+use mathlib.Core.Bool.{true}
+use mathlib.Core.Logic.{⊎-elim}
+use Prim.Native.Nat.{ℕ, zero, suc, _+_, _-_, _*_, _/_, _%_, _^_, _<_}
+use native.Mathlib.Nat.{add-zero, zero-mul, one-mul, mod-eq-of-lt, eq-or-lt-of-le, mul-mod-left}
+use native.Mathlib.Numerals.{add-one}
+use native.Mathlib.Omega.{arith}
+use lib.Bits.{bitAnd, bitOr, and-zero-l, and-comm, and-mask, or-shifted}
+use lib.Pow.{mod-pow-add, shl-shr}
+use Rattle.definition.specs.declared.Block.{Block}
+use Rattle.definition.specs.Constant.{fL, tL, exchanged, initial, constantsFrom}
+use Rattle.definition.specs.AppendixB.{halvesOf, pseudoStep}
+use Rattle.definition.specs.Permutation.{step, steps}
+use Rattle.definition.proofs.Constant.{pseudo-step, second-step, still-64, right-half}
+use Rattle.permutation.specs.declared.Going.{Going}
+use Rattle.permutation.specs.declared.Alone.{Alone}
+use Rattle.permutation.specs.Lanes.{begun, begunAlone, goOn, goOnAlone, after, stepFifth, fifthAfter, applied}
+
+-- a bit taken from 0 is a mask, at any width
+pub masks-out : (w r b m : ℕ) → b < 2 → r < 2 ^ w → m < 2 ^ w → (r + b) % 2 ^ w ≡ 0 → bitAnd r m ≡ b * m
+masks-out w r zero m hb hr hm e =
+    let z : r ≡ 0 = sym (mod-eq-of-lt hr) ∙ (rw (add-zero r) at e) in
+    rw (z, zero-mul m) (and-zero-l m)
+masks-out w r (suc zero) m hb hr hm e = ⊎-elim full (λ h. absurd (omega (arith, mod-eq-of-lt h, rw (add-one r) at e))) (eq-or-lt-of-le hr)
+  where
+    full : suc r ≡ 2 ^ w → bitAnd r m ≡ 1 * m
+    full f =
+        let z : r ≡ 2 ^ w - 1 = omega arith in
+        rw (z, one-mul m, and-comm (2 ^ w - 1) m, and-mask m w) (mod-eq-of-lt hm)
+masks-out w r (suc (suc b)) m hb hr hm e = absurd (omega arith)
+
+-- the exchange as a rotation
+pub rotated : (t : ℕ) → t < 2 ^ 64 → bitOr (t * 2 ^ 32 % 2 ^ 64) (t / 2 ^ 32) ≡ exchanged t
+unfolding exchanged
+rotated t h =
+    let e : t * 2 ^ 32 % 2 ^ 64 ≡ t % 2 ^ 32 * 2 ^ 32 = mod-pow-add (t * 2 ^ 32) 32 32 ∙ rw (shl-shr t 32, mul-mod-left t (2 ^ 32), add-zero) in
+    rw e (or-shifted (t % 2 ^ 32) 32 (t / 2 ^ 32) (omega arith))
+
+-- each start is a number of 64 bits, and so is all that the generator makes of it
+initial-64 : (j : ℕ) → initial j < 2 ^ 64
+unfolding initial
+initial-64 zero = omega arith
+initial-64 (suc zero) = omega arith
+initial-64 (suc (suc zero)) = omega arith
+initial-64 (suc (suc (suc zero))) = omega arith
+initial-64 (suc (suc (suc (suc zero)))) = omega arith
+initial-64 (suc (suc (suc (suc (suc j))))) = omega arith
+
+applied-64 : (n t : ℕ) → t < 2 ^ 64 → applied n t < 2 ^ 64
+unfolding applied
+applied-64 zero t h = h
+applied-64 (suc n) t h = still-64 (applied n t) (applied-64 n t h)
+
+-- the generator in the loop: after i steps of Q_j, whichever of the five it is, one number has made 2i applications
+pub generator-alone : (i j : ℕ) (a : Block) → fifthAfter i true (begunAlone j a) .t ≡ applied (2 * i) (initial j)
+unfolding fifthAfter applied goOnAlone
+generator-alone zero j a = refl
+generator-alone (suc i) j a =
+    let e : 2 * suc i ≡ suc (suc (2 * i)) = omega arith in
+    rw (e, generator-alone i j a)
+
+-- one step in two words is one step in the number that they are halves of
+abbrev halved : Alone → Going
+halved g = record { t = halvesOf (g .t); a = g .a }
+
+went-on : (g : Alone) → g .t < 2 ^ 64 → goOn (halved g) ≡ halved (goOnAlone g)
+unfolding goOn goOnAlone
+went-on g h =
+    λ i. record {
+      t = second-step (g .t) h i;
+      a = step (record { left = pseudo-step (g .t) h i .right; right = second-step (g .t) h i .right }) (g .a);
+    }
+
+halved-after : (i j : ℕ) (a : Block) → after i (begun j a) ≡ halved (fifthAfter i true (begunAlone j a))
+unfolding after fifthAfter
+halved-after zero j a = refl
+halved-after (suc i) j a =
+    let h : fifthAfter i true (begunAlone j a) .t < 2 ^ 64 = rw (generator-alone i j a) (applied-64 (2 * i) (initial j) (initial-64 j)) in
+    ap goOn (halved-after i j a) ∙ went-on (fifthAfter i true (begunAlone j a)) h
+
+-- so two words in a lane are the halves of that number
+pub generator-after : (i j : ℕ) (a : Block) → after i (begun j a) .t ≡ halvesOf (applied (2 * i) (initial j))
+generator-after i j a = ap (λ (g : Going). g .t) (halved-after i j a) ∙ ap halvesOf (generator-alone i j a)
+
+-- a step more is a step before the others
+step-front : (n : ℕ) (g : Alone) → fifthAfter (suc n) true g ≡ fifthAfter n true (goOnAlone g)
+unfolding fifthAfter
+step-front zero g = refl
+step-front (suc n) g = ap goOnAlone (step-front n g)
+
+-- n steps are those of the n pairs of constants that 4.4 gives
+steps-taken : (n t : ℕ) (a : Block) → t < 2 ^ 64 → fifthAfter n true (record { t = t; a = a }) .a ≡ steps (constantsFrom n t) a
+unfolding fifthAfter steps constantsFrom goOnAlone
+steps-taken zero t a h = refl
+steps-taken (suc n) t a h =
+    let k : exchanged (fL t) < 2 ^ 64 = still-64 t h in
+    ap (λ (g : Alone). g .a) (step-front n (record { t = t; a = a }))
+    ∙ steps-taken n _ _ (still-64 _ k)
+    ∙ ap (steps (constantsFrom n (exchanged (fL (exchanged (fL t)))))) (λ i. step (record { left = right-half t h i; right = right-half _ k i }) a)
+
+-- eight steps from the start of Q_j are its steps, in one number and in two words
+pub eight-alone : (j : ℕ) (a : Block) → fifthAfter 8 true (begunAlone j a) .a ≡ steps (constantsFrom 8 (initial j)) a
+eight-alone j a = steps-taken 8 (initial j) a (initial-64 j)
+
+pub eight-steps : (j : ℕ) (a : Block) → after 8 (begun j a) .a ≡ steps (constantsFrom 8 (initial j)) a
+eight-steps j a = ap (λ (g : Going). g .a) (halved-after 8 j a) ∙ eight-alone j a
