@@ -6,6 +6,7 @@
 #include "batch.h"
 #include "bench.h"
 #include "portable.h"
+#include "sse2.h"
 
 #include <stdio.h>
 #include <stdlib.h>
@@ -15,6 +16,8 @@ static uint32_t portable_c_digest(struct job *job)
 {
     return portable_digest(job->code, job->message, job->len, job->out, sizeof job->out);
 }
+
+static uint32_t sse2_c_digest(struct job *job) { return sse2_digest(job->code, job->message, job->len, job->out, sizeof job->out); }
 
 /* -- The same digests -- */
 
@@ -80,6 +83,7 @@ static int check(const uint8_t *message)
         {"fed as one piece", archive_one_piece, LONGEST},
         {"fed in 64 KiB pieces", archive_64_kib_pieces, LONGEST},
         {"fed byte by byte", archive_single_bytes, PIECE + 1},
+        {"C with SSE2 intrinsics", sse2_c_digest, LONGEST},
     };
     size_t compared = 0;
 
@@ -97,7 +101,7 @@ static int check(const uint8_t *message)
                     return 0;
             }
         }
-    printf("the same digests: %zu, of 0 to %d bytes, at codes 1 to %d, in one call and fed\n", compared, LONGEST, CODES);
+    printf("the same digests: %zu, of 0 to %d bytes, at codes 1 to %d, in one call and fed, and of C with SSE2 intrinsics\n", compared, LONGEST, CODES);
     return 1;
 }
 
@@ -180,24 +184,26 @@ static int check_sheets(const uint8_t *message) { return each_sheet("the same di
 
 /* -- The timing -- */
 
-/* The one-call digest against portable C. A bar stands at the longest message only: there the rounds are nearly all of the work. */
+/* The one-call digest against portable C, which has the step constants stored, and against C with SSE2 intrinsics, which runs their generator as
+   the archive does. Bars stand at the longest message only: there the rounds are nearly all of the work. */
 static void digests(const uint8_t *message)
 {
     static const struct length LENGTHS[] = {{64, 16, 4000}, {4096, 1, 4000}, {LONGEST, 1, 100}};
-    static const double BAR[CODES + 1] = {0, 0.72, 0.72, 0.58, 0.55};
-    static work *const RUNS[] = {archive_digest, portable_c_digest};
+    static const double BAR[CODES + 1] = {0, 0.72, 0.72, 0.58, 0.55}, BAR_SSE2 = 1.20;
+    enum { ARCHIVE, PORTABLE, SSE2 };
+    static work *const RUNS[] = {archive_digest, portable_c_digest, sse2_c_digest};
 
     printf("\nOne-call digest, cycles (rdtsc) per byte, best timing of each, taken in turns\n\n");
-    printf("code    bytes   archive  portable C   ratio   bar at 1 MiB\n");
+    printf("code    bytes   archive  portable C   ratio  SSE2 C   ratio   bars at 1 MiB\n");
     for (size_t code = 1; code <= CODES; code++)
         for (size_t i = 0; i < COUNT(LENGTHS); i++) {
             struct job job = job_of(code, message, LENGTHS[i].len);
             double best[COUNT(RUNS)];
             race(RUNS, COUNT(RUNS), &job, &LENGTHS[i], best);
-            double ratio = best[0] / best[1];
-            printf("%4zu %8zu %9.2f %11.2f %7.3f", code, job.len, best[0], best[1], ratio);
+            double ratio = best[ARCHIVE] / best[PORTABLE], to_sse2 = best[ARCHIVE] / best[SSE2];
+            printf("%4zu %8zu %9.2f %11.2f %7.3f %7.2f %7.3f", code, job.len, best[ARCHIVE], best[PORTABLE], ratio, best[SSE2], to_sse2);
             if (job.len == LONGEST)
-                printf("   at most %.2f: %s", BAR[code], verdict(ratio, BAR[code]));
+                printf("   at most %.2f: %s; %.2f: %s", BAR[code], verdict(ratio, BAR[code]), BAR_SSE2, verdict(to_sse2, BAR_SSE2));
             printf("\n");
             fflush(stdout);
         }

@@ -1,19 +1,7 @@
-/* Luffa 2.0.1 in portable C, the baseline of the benchmark: SubCrumb by the instructions of appendix D, the message injection by the
-   forms of appendix E, the step constants stored. Words are uint32_t, and every vector instruction in it is the compiler's own finding. */
+/* Luffa 2.0.1 in portable C, the baseline of the benchmark: what plain.h has, and the step constants stored. Words are uint32_t, and every vector
+   instruction in it is the compiler's own finding. */
 #include "portable.h"
-
-#include <string.h>
-
-enum { BLOCK_BYTES = 32, MOST_BLOCKS = 5 };
-
-/* Appendix A. */
-static const uint32_t START[MOST_BLOCKS][8] = {
-    {0x6d251e69, 0x44b051e0, 0x4eaa6fb4, 0xdbf78465, 0x6e292011, 0x90152df4, 0xee058139, 0xdef610bb},
-    {0xc3b44b95, 0xd9d2f256, 0x70eee9a0, 0xde099fa3, 0x5d9b0557, 0x8fc944b3, 0xcf1ccf0e, 0x746cd581},
-    {0xf7efc89d, 0x5dba5781, 0x04016ce5, 0xad659c05, 0x0306194f, 0x666d1836, 0x24aa230a, 0x8b264ae7},
-    {0x858075d5, 0x36d79cce, 0xe571f7d7, 0x204b1f67, 0x35870c6a, 0x57e9e923, 0x14bcb808, 0x7cde72ce},
-    {0x6c68e9be, 0x5ec41e22, 0xc825b7c7, 0xaffb4363, 0xf5df3999, 0x0fc688f1, 0xb07224cc, 0x03e86cea},
-};
+#include "plain.h"
 
 /* 4.4: at block j and step r, the constants of words 0 and 4. These are the generator's values; appendix B prints the second of block 1,
    step 5 with nine digits. */
@@ -29,37 +17,6 @@ static const uint32_t STEP_CONST[MOST_BLOCKS][8][2] = {
     {{0xf0d2e9e3, 0x5090d577}, {0xac11d7fa, 0x2d1925ab}, {0x1bcb66f2, 0xb46496ac}, {0x6f2d9bc9, 0xd1925ab0},
      {0x78602649, 0x29131ab6}, {0x8edae952, 0x0fc053c3}, {0x3b6ba548, 0x3f014f0c}, {0xedae9520, 0xfc053c31}},
 };
-
-static inline uint32_t rotl(uint32_t x, unsigned n) { return (x << n) | (x >> ((32 - n) & 31)); }
-
-/* Appendix D, read left to right, line by line. */
-static inline void sub_crumb(uint32_t *a0, uint32_t *a1, uint32_t *a2, uint32_t *a3)
-{
-    uint32_t r0 = *a0, r1 = *a1, r2 = *a2, r3 = *a3, r4;
-
-    r4 = r0;  r0 |= r1; r2 ^= r3;
-    r1 = ~r1; r0 ^= r3; r3 &= r4;
-    r1 ^= r3; r3 ^= r2; r2 &= r0;
-    r0 = ~r0; r2 ^= r1; r1 |= r3;
-    r4 ^= r1; r3 ^= r2; r2 &= r1;
-    r1 ^= r0;
-
-    *a0 = r4; *a1 = r1; *a2 = r2; *a3 = r3;
-}
-
-/* 4.3 */
-static inline void mix_word(uint32_t *xk, uint32_t *xk4)
-{
-    uint32_t y = *xk, z = *xk4;
-
-    z ^= y;
-    y = rotl(y, 2) ^ z;
-    z = rotl(z, 14) ^ y;
-    y = rotl(y, 10) ^ z;
-    z = rotl(z, 1);
-
-    *xk = y; *xk4 = z;
-}
 
 /* 4.1 and 4.5: Q_j. The eight words stand in locals, so that they stay in registers from the tweak to the last step. */
 static inline void permute(uint32_t h[8], unsigned j)
@@ -80,115 +37,6 @@ static inline void permute(uint32_t h[8], unsigned j)
 
     h[0] = a0; h[1] = a1; h[2] = a2; h[3] = a3;
     h[4] = a4; h[5] = a5; h[6] = a6; h[7] = a7;
-}
-
-/* 3.2: multiplication by 0x02, in place. */
-static inline void twice(uint32_t a[8])
-{
-    uint32_t tmp = a[7];
-
-    a[7] = a[6];
-    a[6] = a[5];
-    a[5] = a[4];
-    a[4] = a[3] ^ tmp;
-    a[3] = a[2] ^ tmp;
-    a[2] = a[1];
-    a[1] = a[0] ^ tmp;
-    a[0] = tmp;
-}
-
-static inline void add(uint32_t a[8], const uint32_t b[8])
-{
-    for (int k = 0; k < 8; k++)
-        a[k] ^= b[k];
-}
-
-/* 2.2: a block of 32 bytes as eight words, first byte highest. */
-static inline void load(uint32_t m[8], const uint8_t *x)
-{
-    for (int k = 0; k < 8; k++, x += 4)
-        m[k] = (uint32_t)x[0] << 24 | (uint32_t)x[1] << 16 | (uint32_t)x[2] << 8 | x[3];
-}
-
-static inline void store(uint8_t *x, uint32_t a)
-{
-    x[0] = (uint8_t)(a >> 24);
-    x[1] = (uint8_t)(a >> 16);
-    x[2] = (uint8_t)(a >> 8);
-    x[3] = (uint8_t)a;
-}
-
-/* E-1 */
-static inline void inject3(uint32_t h[3][8], uint32_t m[8])
-{
-    uint32_t sum[8];
-
-    for (int k = 0; k < 8; k++)
-        sum[k] = h[0][k] ^ h[1][k] ^ h[2][k];
-    twice(sum);
-    for (int j = 0; j < 3; j++) {
-        add(h[j], sum);
-        add(h[j], m);
-        twice(m);
-    }
-}
-
-/* E-2: h holds eta and then X, so eta_3 is kept aside until X_0 takes it. */
-static inline void inject4(uint32_t h[4][8], uint32_t m[8])
-{
-    uint32_t sum[8], last[8];
-
-    for (int k = 0; k < 8; k++)
-        sum[k] = h[0][k] ^ h[1][k] ^ h[2][k] ^ h[3][k];
-    twice(sum);
-    for (int j = 0; j < 4; j++)
-        add(h[j], sum);
-
-    memcpy(last, h[3], sizeof last);
-    for (int j = 3; j > 0; j--) {
-        twice(h[j]);
-        add(h[j], h[j - 1]);
-    }
-    twice(h[0]);
-    add(h[0], last);
-
-    for (int j = 0; j < 4; j++) {
-        add(h[j], m);
-        twice(m);
-    }
-}
-
-/* E-3: h holds eta, then xi, then X, so eta_0 and xi_4 are kept aside until xi_4 and X_0 take them. */
-static inline void inject5(uint32_t h[5][8], uint32_t m[8])
-{
-    uint32_t sum[8], first[8], last[8];
-
-    for (int k = 0; k < 8; k++)
-        sum[k] = h[0][k] ^ h[1][k] ^ h[2][k] ^ h[3][k] ^ h[4][k];
-    twice(sum);
-    for (int j = 0; j < 5; j++)
-        add(h[j], sum);
-
-    memcpy(first, h[0], sizeof first);
-    for (int j = 0; j < 4; j++) {
-        twice(h[j]);
-        add(h[j], h[j + 1]);
-    }
-    twice(h[4]);
-    add(h[4], first);
-
-    memcpy(last, h[4], sizeof last);
-    for (int j = 4; j > 0; j--) {
-        twice(h[j]);
-        add(h[j], h[j - 1]);
-    }
-    twice(h[0]);
-    add(h[0], last);
-
-    for (int j = 0; j < 5; j++) {
-        add(h[j], m);
-        twice(m);
-    }
 }
 
 /* 3.2: the rounds of whole message blocks, one function for each w, so that the compiler knows w. */
@@ -240,48 +88,12 @@ static void rounds(size_t w, uint32_t h[MOST_BLOCKS][8], const uint8_t *x, size_
     }
 }
 
-uint32_t portable_output_bits(size_t code, size_t words, const uint8_t *message, size_t message_len, size_t odd, uint8_t *out, size_t out_len)
-{
-    static const size_t WIDTH[] = {0, 3, 3, 4, 5};
-    uint32_t h[MOST_BLOCKS][8];
-    uint8_t block[BLOCK_BYTES] = {0};
-    size_t bytes = message_len - (odd > 0), whole = bytes / BLOCK_BYTES, rest = bytes % BLOCK_BYTES;
-
-    if (code < 1 || code > 4)
-        return 1;
-    size_t w = WIDTH[code];
-    if (out_len < 4 * words)
-        return 2;
-
-    memcpy(h, START, sizeof h);
-    rounds(w, h, message, whole);
-
-    /* 3.1: the bytes left over and the odd bits, then a bit 1, then zeros. */
-    if (rest > 0)
-        memcpy(block, message + whole * BLOCK_BYTES, rest);
-    if (odd > 0)
-        block[rest] = (uint8_t)(message[bytes] & ~(0xff >> odd));
-    block[rest] |= (uint8_t)(0x80 >> odd);
-    rounds(w, h, block, 1);
-
-    /* 3.3 and 5: a round with a zero block goes before each Z_i. */
-    memset(block, 0, sizeof block);
-    for (size_t i = 0; i < words; i++) {
-        uint32_t z = 0;
-        if (i % 8 == 0)
-            rounds(w, h, block, 1);
-        for (size_t j = 0; j < w; j++)
-            z ^= h[j][i % 8];
-        store(out + 4 * i, z);
-    }
-    return 0;
-}
+#define OUTPUT_BITS portable_output_bits
+#include "message.h"
 
 uint32_t portable_digest_bits(size_t code, const uint8_t *message, size_t message_len, size_t odd, uint8_t *out, size_t out_len)
 {
-    static const size_t DIGEST_WORDS[] = {0, 7, 8, 12, 16};
-
-    return code < 1 || code > 4 ? 1 : portable_output_bits(code, DIGEST_WORDS[code], message, message_len, odd, out, out_len);
+    return code < 1 || code > 4 ? 1 : portable_output_bits(code, digest_words(code), message, message_len, odd, out, out_len);
 }
 
 uint32_t portable_digest(size_t code, const uint8_t *message, size_t message_len, uint8_t *out, size_t out_len)
