@@ -189,7 +189,8 @@ static int check_sheets(const uint8_t *message) { return each_sheet("the same di
 static void digests(const uint8_t *message)
 {
     static const struct length LENGTHS[] = {{64, 16, 4000}, {4096, 1, 4000}, {LONGEST, 1, 100}};
-    static const double BAR[CODES + 1] = {0, 0.72, 0.72, 0.58, 0.55}, BAR_SSE2 = 1.20;
+    /* 0.72, 0.58 and 0.55 where the archive had them stored too, and 1.15 times that without. */
+    static const double BAR[CODES + 1] = {0, 0.83, 0.83, 0.67, 0.63}, BAR_SSE2 = 1.20;
     enum { ARCHIVE, PORTABLE, SSE2 };
     static work *const RUNS[] = {archive_digest, portable_c_digest, sse2_c_digest};
 
