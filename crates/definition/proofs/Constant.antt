@@ -49,36 +49,42 @@ module _ (t : ℕ) (h : t < 2 ^ 64) where
       let f : t * 2 % 2 ^ 32 ≡ tr = omega arith in
       mod-pow-add (t * 2) 32 32 ∙ rw (e, f)
 
-  left-word : bitXor tr (c * 0x55c61c8d) < 2 ^ 32
-  left-word = xor-lt 32 tr (c * 0x55c61c8d) (omega arith) (omega arith)
+  -- and these with the masks: f_L before the SWAP
+  abbrev fl : ℕ
+  fl = bitXor tl (c * 0xc4d6496c)
 
-  right-word : bitXor tl (c * 0xc4d6496c) < 2 ^ 32
-  right-word = xor-lt 32 tl (c * 0xc4d6496c) (omega (arith, handed)) (omega arith)
+  abbrev fr : ℕ
+  fr = bitXor tr (c * 0x55c61c8d)
 
-  -- before its SWAP the pseudo code has f_L
-  in-words : fL t ≡ bitXor tl (c * 0xc4d6496c) * 2 ^ 32 + bitXor tr (c * 0x55c61c8d)
+  fl-word : fl < 2 ^ 32
+  fl-word = xor-lt 32 tl (c * 0xc4d6496c) (omega (arith, handed)) (omega arith)
+
+  fr-word : fr < 2 ^ 32
+  fr-word = xor-lt 32 tr (c * 0x55c61c8d) (omega arith) (omega arith)
+
+  in-words : fL t ≡ fl * 2 ^ 32 + fr
   unfolding fL
-  in-words =
-      rw (masks, doubled, ← (shr-shr t 32 31), both-masks c) (xor-block 32 tl (c * 0xc4d6496c) tr (c * 0x55c61c8d) (omega arith) (omega arith))
+  in-words = rw (masks, doubled, ← (shr-shr t 32 31), both-masks c) (xor-block 32 tl (c * 0xc4d6496c) tr (c * 0x55c61c8d) (omega arith) (omega arith))
 
+  swapped : exchanged (fL t) ≡ fr * 2 ^ 32 + fl
+  swapped = ap exchanged in-words ∙ exchanged-words fl fr fr-word
+
+  -- both leave a number of 64 bits
   pub f-64 : fL t < 2 ^ 64
-  f-64 = rw in-words (omega (arith, left-word, right-word))
-
-  swapped : exchanged (fL t) ≡ bitXor tr (c * 0x55c61c8d) * 2 ^ 32 + bitXor tl (c * 0xc4d6496c)
-  swapped = ap exchanged in-words ∙ exchanged-words (bitXor tl (c * 0xc4d6496c)) (bitXor tr (c * 0x55c61c8d)) left-word
-
-  -- the pseudo code's step is f_L and the exchange, on any number of 64 bits, which it stays
-  pub pseudo-step : pseudoStep (halvesOf t) ≡ halvesOf (exchanged (fL t))
-  unfolding pseudoStep
-  pseudo-step = rw (swapped, high (bitXor tr (c * 0x55c61c8d)) 32 right-word, low (bitXor tr (c * 0x55c61c8d)) 32 right-word)
+  f-64 = rw in-words (omega (arith, fl-word, fr-word))
 
   pub still-64 : exchanged (fL t) < 2 ^ 64
-  still-64 = rw swapped (omega (arith, left-word, right-word))
+  still-64 = rw swapped (omega (arith, fl-word, fr-word))
+
+  -- the pseudo code's step is f_L and the exchange, on any number of 64 bits
+  pub pseudo-step : pseudoStep (halvesOf t) ≡ halvesOf (exchanged (fL t))
+  unfolding pseudoStep
+  pseudo-step = rw (swapped, high fr 32 fl-word, low fr 32 fl-word)
 
   -- t_R after the exchange is t_L before it
   pub right-half : exchanged (fL t) % 2 ^ 32 ≡ tL (fL t)
   unfolding tL
-  right-half = rw (swapped, in-words, high (bitXor tl (c * 0xc4d6496c)) 32 left-word, low (bitXor tr (c * 0x55c61c8d)) 32 right-word)
+  right-half = rw (swapped, in-words, high fl 32 fr-word, low fr 32 fl-word)
 
 -- and two of its steps
 pub second-step : (t : ℕ) → t < 2 ^ 64 → pseudoStep (pseudoStep (halvesOf t)) ≡ halvesOf (exchanged (fL (exchanged (fL t))))
