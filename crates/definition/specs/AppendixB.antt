@@ -1,5 +1,5 @@
 -- The step constants as Appendix B-2 to B-4 of the source print them, c_0 and c_4 of steps 0 to 7 for each block, and the generator's pseudo
--- code of 4.4. Nothing is defined by them: they are compared with the generator of Constant.
+-- code of 4.4. No definition of Luffa is by them: they are compared with the generator of Constant.
 use Prim.Native.Nat.{ℕ, zero, suc, _*_, _/_, _%_, _^_}
 use mathlib.Core.Bool.{Bool, true, false}
 use mathlib.Core.List.{List, [], _∷_, _++_}
