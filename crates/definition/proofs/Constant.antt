@@ -2,13 +2,12 @@
 -- entries.
 -- Assumes nothing.
 use mathlib.Core.Path.{_≡_, refl, ap, _∙_}
-use mathlib.Core.List.{List, [], _∷_, map}
+use mathlib.Core.List.{[], _∷_, map}
 use Prim.Native.Nat.{ℕ, zero, suc, _+_, _*_, _/_, _%_, _^_, _<_}
 use native.Mathlib.Omega.{arith}
 use lib.Bits.{bitXor, bitOr, or-shifted, xor-lt, xor-block}
 use lib.Pow.{high, low, mod-pow-add, shr-shr}
 use lib.ListN.{length}
-use Rattle.definition.specs.declared.Pair.{Pair}
 use Rattle.definition.specs.Constant.{g, fL, tL, exchanged, constantsFrom}
 use Rattle.definition.specs.AppendixB.{printed, flat, misprintsOf, misprintsFrom, halvesOf, pseudoStep, pseudoConstants}
 use Rattle.definition.proofs.Computed.{everything}

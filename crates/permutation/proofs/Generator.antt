@@ -11,13 +11,13 @@ use native.Mathlib.Omega.{arith}
 use lib.Bits.{bitAnd, bitOr, and-zero-l, and-comm, and-mask, or-shifted}
 use lib.Pow.{mod-pow-add, shl-shr}
 use Rattle.definition.specs.declared.Block.{Block}
-use Rattle.definition.specs.Constant.{fL, tL, exchanged, initial, constantsFrom}
-use Rattle.definition.specs.AppendixB.{halvesOf, pseudoStep}
+use Rattle.definition.specs.Constant.{fL, exchanged, initial, constantsFrom}
+use Rattle.definition.specs.AppendixB.{halvesOf}
 use Rattle.definition.specs.Permutation.{step, steps}
 use Rattle.definition.proofs.Constant.{pseudo-step, second-step, still-64, right-half}
 use Rattle.permutation.specs.declared.Going.{Going}
 use Rattle.permutation.specs.declared.Alone.{Alone}
-use Rattle.permutation.specs.Lanes.{begun, begunAlone, goOn, goOnAlone, after, stepFifth, fifthAfter, applied}
+use Rattle.permutation.specs.Lanes.{begun, begunAlone, goOn, goOnAlone, after, fifthAfter, applied}
 
 -- a bit taken from 0 is a mask, at any width
 pub masks-out : (w r b m : ℕ) → b < 2 → r < 2 ^ w → m < 2 ^ w → (r + b) % 2 ^ w ≡ 0 → bitAnd r m ≡ b * m
