@@ -40,7 +40,7 @@ unfolding fromBits bit
 fromBits-bit zero a = sym (mod-one a)
 fromBits-bit (suc n) a = rw (fromBits-bit n a) (sym (mod-pow-add a 1 n) ∙ ap (λ (k : ℕ). a % 2 ^ k) (one-add n))
 
-fromBits-cong : (n : ℕ) (f g : ℕ → ℕ) → ((l : ℕ) → l < n → f l ≡ g l) → fromBits n f ≡ fromBits n g
+pub fromBits-cong : (n : ℕ) (f g : ℕ → ℕ) → ((l : ℕ) → l < n → f l ≡ g l) → fromBits n f ≡ fromBits n g
 unfolding fromBits
 fromBits-cong zero f g h = refl
 fromBits-cong (suc n) f g h =
@@ -89,7 +89,7 @@ unfolding bit
 bit-zero l = rw zero-div
 
 -- the bits of the lowest n bits, of a shift to the right and of one to the left
-bit-mod : (n l a : ℕ) → l < n → bit l (a % 2 ^ n) ≡ bit l a
+pub bit-mod : (n l a : ℕ) → l < n → bit l (a % 2 ^ n) ≡ bit l a
 unfolding bit
 bit-mod n l a h =
     let e : n - l - 1 + 1 + l ≡ n = omega arith in

@@ -44,12 +44,12 @@ abbrev pub AllWords : List Block → Type 0
 AllWords = Every Words
 
 -- both words of a pair of constants
-record PairWords (c : Pair) : Type 0 where
-  left-word : c .left < 2 ^ 32
-  right-word : c .right < 2 ^ 32
+pub record PairWords (c : Pair) : Type 0 where
+  pub left-word : c .left < 2 ^ 32
+  pub right-word : c .right < 2 ^ 32
 
 -- a word rotated is a word
-rotl-lt : (n a : ℕ) → a < 2 ^ 32 → rotl n a < 2 ^ 32
+pub rotl-lt : (n a : ℕ) → a < 2 ^ 32 → rotl n a < 2 ^ 32
 unfolding rotl
 rotl-lt n a h =
     or-lt 32 (a * 2 ^ n % 2 ^ 32) (a / 2 ^ (32 - n)) (mod-lt (a * 2 ^ n) (pow-pos 32)) (lt-of-le-of-lt (shr-le a (32 - n)) h)
@@ -59,7 +59,7 @@ subWord-lt : (k a0 a1 a2 a3 : ℕ) → subWord k a0 a1 a2 a3 < 2 ^ 32
 unfolding subWord
 subWord-lt k a0 a1 a2 a3 = fromBits-lt 32 (λ l. bit k (S (sboxInput a0 a1 a2 a3 l))) (λ l. bit-lt k (S (sboxInput a0 a1 a2 a3 l)))
 
-sub-words : (a : Block) → Words (subCrumbs a)
+pub sub-words : (a : Block) → Words (subCrumbs a)
 unfolding subCrumbs subCrumb
 sub-words a = search subWord-lt
 
@@ -86,17 +86,17 @@ mixed-words x h =
       mix-words (x .a3) (x .a7) (h .w3) (h .w7),
     )
 
-add-words : (c : Pair) (y : Block) → PairWords c → Words y → Words (addConstant c y)
+pub add-words : (c : Pair) (y : Block) → PairWords c → Words y → Words (addConstant c y)
 unfolding addConstant
 add-words c y k h = omega (arith, xor-lt 32 (y .a0) (c .left) (h .w0) (k .left-word), xor-lt 32 (y .a4) (c .right) (h .w4) (k .right-word))
 
 -- a step with constants that are words gives words, from any block
-step-words : (c : Pair) (a : Block) → PairWords c → Words (step c a)
+pub step-words : (c : Pair) (a : Block) → PairWords c → Words (step c a)
 unfolding step
 step-words c a k = add-words c (mixWords (subCrumbs a)) k (mixed-words (subCrumbs a) (sub-words a))
 
 -- the constants of the five blocks are words
-constants-words : (j : ℕ) → j < 5 → Every PairWords (constants j)
+pub constants-words : (j : ℕ) → j < 5 → Every PairWords (constants j)
 unfolding everything
 constants-words zero h = omega arith
 constants-words (suc zero) h = omega arith

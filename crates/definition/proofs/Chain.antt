@@ -64,14 +64,14 @@ unfolding permuteFrom
 length-permuteFrom j [] = refl
 length-permuteFrom j (a ∷ h) = ap suc (length-permuteFrom (suc j) h)
 
-length-round : (w : Width) (h : List Block) (m : Block) → length (round w h m) ≡ blockCount w
+pub length-round : (w : Width) (h : List Block) (m : Block) → length (round w h m) ≡ blockCount w
 unfolding round
 length-round w h m = length-permuteFrom 0 (inject w h m) ∙ length-inject w h m
 
 pub blocks-of-inject : (w : Width) (h : List Block) (m : Block) → blocksIn w (stateOf (inject w h m)) ≡ inject w h m
 blocks-of-inject w h m = blocks-of-state w (inject w h m) (length-inject w h m)
 
-blocks-of-round : (w : Width) (h : List Block) (m : Block) → blocksIn w (stateOf (round w h m)) ≡ round w h m
+pub blocks-of-round : (w : Width) (h : List Block) (m : Block) → blocksIn w (stateOf (round w h m)) ≡ round w h m
 blocks-of-round w h m = blocks-of-state w (round w h m) (length-round w h m)
 
 blocks-of-used : (w : Width) (s : State) → blocksIn w (stateOf (blocksIn w s)) ≡ blocksIn w s

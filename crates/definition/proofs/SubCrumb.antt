@@ -1,15 +1,15 @@
 -- Appendix D's instructions give SubCrumb: on registers of n bits an instruction works at each bit apart, and at one bit the checker
--- computes all sixteen cases of S.
+-- computes all sixteen cases of S. The law is of any program of such instructions and any table of sixteen entries.
 -- Assumes nothing.
 use mathlib.Core.Path.{_≡_, refl, sym, ap, _∙_}
 use mathlib.Core.Bool.{Bool}
 use mathlib.Core.List.{List, [], _∷_, _++_, map}
 use Prim.Native.Nat.{ℕ, zero, suc, _+_, _*_, _^_, _<_}
 use lib.Bits.{xor-lt, and-lt, or-lt}
-use lib.Dec.{T, eqb, eqb→eq}
-use lib.ListN.{getD, set, List·getD-map}
+use lib.Dec.{T as T', eqb, eqb→eq}
+use lib.ListN.{getD, set, replicate, List·getD-map}
 use lib.Pow.{ones-sub-lt, pow-pos}
-use Rattle.definition.specs.Word.{bit}
+use Rattle.definition.specs.Word.{bit, fromBits}
 use Rattle.definition.specs.SubCrumb.{S, sboxInput, subWord, subCrumb}
 use Rattle.definition.specs.AppendixD.{Instruction, MOV, OR, XOR, AND, NOT, table4, execute, executeAll, results, appendixD}
 use Rattle.definition.proofs.Bits.{bits-at, bit-zero, bit-xor, bit-and, bit-or, bit-not, from-its-bits}
@@ -64,34 +64,45 @@ module _ (n l : ℕ) (hl : l < n) where
   executeAll-bit [] rs h = refl
   executeAll-bit (i ∷ is) rs h = executeAll-bit is (execute n i rs) (below-execute n i rs h) ∙ ap (executeAll 1 is) (execute-bit i rs h)
 
--- at one bit, the register that holds x_k gives bit k of S
-agrees : (register k : ℕ) → List ℕ → Bool
-agrees register k bs =
-    eqb (getD (executeAll 1 table4 (bs ++ (0 ∷ []))) register 0)
-    (bit k (S (getD bs 3 0 * 8 + getD bs 2 0 * 4 + getD bs 1 0 * 2 + getD bs 0 0)))
+-- at one bit, the register that holds output k gives bit k of a table of sixteen entries; registers after the four inputs begin as zero
+pub agrees : (T : ℕ → ℕ) → (program : List Instruction) → (zeros register k : ℕ) → List ℕ → Bool
+agrees T program zeros register k bs =
+    eqb (getD (executeAll 1 program (bs ++ replicate zeros 0)) register 0)
+    (bit k (T (getD bs 3 0 * 8 + getD bs 2 0 * 4 + getD bs 1 0 * 2 + getD bs 0 0)))
 
-module _ (a0 a1 a2 a3 : ℕ) (h0 : a0 < 2 ^ 32) (h1 : a1 < 2 ^ 32) (h2 : a2 < 2 ^ 32) (h3 : a3 < 2 ^ 32) where
-  -- the registers as they are loaded, and after the program
-  abbrev registers : List ℕ
-  registers = a0 ∷ a1 ∷ a2 ∷ a3 ∷ 0 ∷ []
+zeros-below : (n m : ℕ) → Below n (replicate m 0)
+zeros-below n zero = tt
+zeros-below n (suc m) = (pow-pos n, zeros-below n m)
 
-  abbrev after : List ℕ
-  after = executeAll 32 table4 registers
+zeros-bit : (l m : ℕ) → map (bit l) (replicate m 0) ≡ replicate m 0
+zeros-bit l zero = refl
+zeros-bit l (suc m) = rw (bit-zero l, zeros-bit l m)
 
-  loaded : Below 32 registers
-  loaded = (h0, (h1, (h2, (h3, (pow-pos 32, tt)))))
+module _ (T : ℕ → ℕ) (program : List Instruction) (zeros a0 a1 a2 a3 : ℕ) (h0 : a0 < 2 ^ 32) (h1 : a1 < 2 ^ 32) (h2 : a2 < 2 ^ 32) (h3 : a3 < 2 ^ 32)
+  where
+    -- the registers as they are loaded, and after the program
+    abbrev registers : List ℕ
+    registers = a0 ∷ a1 ∷ a2 ∷ a3 ∷ replicate zeros 0
 
-  -- a register's word is x_k, from the sixteen cases
-  word : (register k : ℕ) → T (everyBits 4 (agrees register k)) → getD after register 0 ≡ subWord k a0 a1 a2 a3
-  unfolding subWord sboxInput agrees
-  word register k t =
-      from-its-bits 32 _ (λ l. bit k (S (sboxInput a0 a1 a2 a3 l))) (below-at 32 after (below-executeAll 32 table4 registers loaded) register)
-      (λ l hl.
-      rw (reg 32 l hl after register, executeAll-bit 32 l hl table4 registers loaded, bit-zero l)
-      (eqb→eq _ _ (at-bits (agrees register k) t (bits-at l (a0 ∷ a1 ∷ a2 ∷ a3 ∷ [])))))
+    abbrev after : List ℕ
+    after = executeAll 32 program registers
 
-  -- Appendix D's instructions, read left to right and line by line, give SubCrumb
-  pub instructions : appendixD a0 a1 a2 a3 ≡ subCrumb a0 a1 a2 a3
-  unfolding appendixD subCrumb results agrees executeAll execute table4 bit S
-  instructions =
-      λ i. record { x0 = word 4 0 tt i; x1 = word 1 1 tt i; x2 = word 2 2 tt i; x3 = word 3 3 tt i }
+    loaded : Below 32 registers
+    loaded = (h0, (h1, (h2, (h3, zeros-below 32 zeros))))
+
+    -- a register's word is the table's word k, from the sixteen cases
+    pub word : (register k : ℕ) → T' (everyBits 4 (agrees T program zeros register k))
+        → getD after register 0 ≡ fromBits 32 (λ l. bit k (T (sboxInput a0 a1 a2 a3 l)))
+    unfolding sboxInput agrees
+    word register k t =
+        from-its-bits 32 _ (λ l. bit k (T (sboxInput a0 a1 a2 a3 l))) (below-at 32 after (below-executeAll 32 program registers loaded) register)
+        (λ l hl.
+        rw (reg 32 l hl after register, executeAll-bit 32 l hl program registers loaded, zeros-bit l zeros)
+        (eqb→eq _ _ (at-bits (agrees T program zeros register k) t (bits-at l (a0 ∷ a1 ∷ a2 ∷ a3 ∷ [])))))
+
+-- Appendix D's instructions, read left to right and line by line, give SubCrumb
+pub instructions : (a0 a1 a2 a3 : ℕ) → a0 < 2 ^ 32 → a1 < 2 ^ 32 → a2 < 2 ^ 32 → a3 < 2 ^ 32 → appendixD a0 a1 a2 a3 ≡ subCrumb a0 a1 a2 a3
+unfolding appendixD subCrumb subWord results agrees executeAll execute table4 bit S
+instructions a0 a1 a2 a3 h0 h1 h2 h3 =
+    let at : (register k : ℕ) → T' (everyBits 4 (agrees S table4 1 register k)) → _ = word S table4 1 a0 a1 a2 a3 h0 h1 h2 h3 in
+    λ i. record { x0 = at 4 0 tt i; x1 = at 1 1 tt i; x2 = at 2 2 tt i; x3 = at 3 3 tt i }

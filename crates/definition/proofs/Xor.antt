@@ -32,7 +32,7 @@ halves : (n b c : ℕ) → bitXor (bitXor (n / 2) (b / 2)) (c / 2) ≡ bitXor (n
 halves n b c ih =
     rw (xor-shr (bitXor n b) c 1, xor-shr n b 1, xor-shr n (bitXor b c) 1, xor-shr b c 1) ih
 
-word-assoc : (a b c : ℕ) → bitXor (bitXor a b) c ≡ bitXor a (bitXor b c)
+pub word-assoc : (a b c : ℕ) → bitXor (bitXor a b) c ≡ bitXor a (bitXor b c)
 word-assoc =
     bin-ind (λ (n : ℕ). (b c : ℕ) → bitXor (bitXor n b) c ≡ bitXor n (bitXor b c)) (λ b c. refl)
     (λ n ih b c.

@@ -44,7 +44,7 @@ abbrev pub STALE : ℕ
 STALE = 11
 
 -- and document 02's: of longer output, Q-2, of the brine statement, Q-3, of many changes in one save, Q-4, of a planner's own marks, Q-6, of odd
--- bits, Q-7, of who depends on a well, Q-10, and of closing up, Q-11
+-- bits, Q-7, of stepping back, Q-9, of who depends on a well, Q-10, and of closing up, Q-11
 abbrev pub WORDS : ℕ
 WORDS = 12
 
@@ -62,6 +62,9 @@ STALE-TAIL = 16
 
 abbrev pub ODD : ℕ
 ODD = 17
+
+abbrev pub BACK : ℕ
+BACK = 18
 
 abbrev pub HOPS : ℕ
 HOPS = 19

@@ -24,7 +24,7 @@ use Rattle.hash_definition.proofs.Working.{lent-decoded, lent-formed, l
 use Rattle.hash_definition.proofs.WorkingDemand2.{bitsAfter, whole-append, lent-feed-done, lent-feed-long, lent-feed-odd, lent-fed, lent-twice, lent-empty}
 
 -- the blocks read from bytes are words
-block-words : (x : List ℕ) → ((i : ℕ) → getD x i 0 < 256) → Words (blockOf x)
+pub block-words : (x : List ℕ) → ((i : ℕ) → getD x i 0 < 256) → Words (blockOf x)
 unfolding blockOf
 block-words x h = search word-lt
 

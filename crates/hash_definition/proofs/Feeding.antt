@@ -125,7 +125,7 @@ fed-fed k y z e =
     )
 
 -- blocks that w doesn't use are zero in the state that w blocks make
-unused-zero : (w : Width) (s : State) → allZero (wordsOfAll (drop (blockCount w) (five (stateOf (blocksIn w s))))) ≡ true
+pub unused-zero : (w : Width) (s : State) → allZero (wordsOfAll (drop (blockCount w) (five (stateOf (blocksIn w s))))) ≡ true
 unfolding allZero wordsOfAll wordsOf blockCount five stateOf blocksIn
 unused-zero W3 s = refl
 unused-zero W4 s = refl
@@ -201,7 +201,7 @@ state-used W4 s e = λ i. record { h0 = s .h0; h1 = s .h1; h2 = s .h2; h3 = s .h
 state-used W5 s e = refl
 
 -- bytes with nothing but zeros after them are filled up with those zeros
-with-zeros-take : (n : ℕ) (p : List ℕ) → n ≤ 32 → length p ≡ 32 → allZero (drop n p) ≡ true → withZeros (take n p) ≡ p
+pub with-zeros-take : (n : ℕ) (p : List ℕ) → n ≤ 32 → length p ≡ 32 → allZero (drop n p) ≡ true → withZeros (take n p) ≡ p
 unfolding withZeros
 with-zeros-take n p h l e =
     let m : 32 - length (take n p) ≡ length (drop n p) = omega (arith, length-take-le n p (omega arith), length-drop n p) in

@@ -120,7 +120,7 @@ word-glue x k h e =
     (simp towards-suc)
 
 -- a block read and written again
-block-glue : (x : List ℕ) → ((i : ℕ) → getD x i 0 < 256) → 32 ≤ length x → bytesOfAll (wordsOf (blockOf x)) ++ drop 32 x ≡ x
+pub block-glue : (x : List ℕ) → ((i : ℕ) → getD x i 0 < 256) → 32 ≤ length x → bytesOfAll (wordsOf (blockOf x)) ++ drop 32 x ≡ x
 unfolding blockOf wordsOf bytesOfAll
 block-glue x h e =
     simp append-assoc

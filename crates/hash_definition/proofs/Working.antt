@@ -25,7 +25,7 @@ use Rattle.hash_definition.proofs.Formed.{formed}
 use Rattle.hash_definition.proofs.Records.{length-encode, six-zeros, decode-encode, encode-decode}
 
 -- a call that is refused alike and makes of the bytes what is made of the working state
-in-bytes : (rs : List Refusal) (after before : Kept) → outcome rs (encode after) (encode before) ≡ inBytes (lentOutcome rs after before)
+pub in-bytes : (rs : List Refusal) (after before : Kept) → outcome rs (encode after) (encode before) ≡ inBytes (lentOutcome rs after before)
 unfolding outcome lentOutcome
 in-bytes rs after before = ap (λ (b : List ℕ). record { number = firstOf rs; buffer = b }) (same (firstOf rs))
   where

@@ -41,6 +41,8 @@ pub const STALE_TAIL: u32 = 16;
 
 pub const ODD: u32 = 17;
 
+pub const BACK: u32 = 18;
+
 pub const HOPS: u32 = 19;
 
 pub const UNSOUND: u32 = 20;
