@@ -21,7 +21,7 @@ both-masks : (c : ℕ) → c * 0xc4d6496c_55c61c8d ≡ c * 0xc4d6496c * 2 ^ 32 +
 both-masks c = omega arith
 
 -- the exchange of two words
-exchanged-words : (a b : ℕ) → b < 2 ^ 32 → exchanged (a * 2 ^ 32 + b) ≡ b * 2 ^ 32 + a
+pub exchanged-words : (a b : ℕ) → b < 2 ^ 32 → exchanged (a * 2 ^ 32 + b) ≡ b * 2 ^ 32 + a
 unfolding exchanged
 exchanged-words a b h = rw (high a 32 h, low a 32 h)
 

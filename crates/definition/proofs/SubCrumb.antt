@@ -65,7 +65,7 @@ module _ (n l : ℕ) (hl : l < n) where
   executeAll-bit (i ∷ is) rs h = executeAll-bit is (execute n i rs) (below-execute n i rs h) ∙ ap (executeAll 1 is) (execute-bit i rs h)
 
 -- at one bit, the register that holds output k gives bit k of a table of sixteen entries; registers after the four inputs begin as zero
-pub agrees : (T : ℕ → ℕ) → (program : List Instruction) → (zeros register k : ℕ) → List ℕ → Bool
+unfoldable pub agrees : (T : ℕ → ℕ) → (program : List Instruction) → (zeros register k : ℕ) → List ℕ → Bool
 agrees T program zeros register k bs =
     eqb (getD (executeAll 1 program (bs ++ replicate zeros 0)) register 0)
     (bit k (T (getD bs 3 0 * 8 + getD bs 2 0 * 4 + getD bs 1 0 * 2 + getD bs 0 0)))

@@ -40,7 +40,7 @@ rotated t h =
     rw e (or-shifted (t % 2 ^ 32) 32 (t / 2 ^ 32) (omega arith))
 
 -- each start is a number of 64 bits, and so is all that the generator makes of it
-initial-64 : (j : ℕ) → initial j < 2 ^ 64
+pub initial-64 : (j : ℕ) → initial j < 2 ^ 64
 unfolding initial
 initial-64 zero = omega arith
 initial-64 (suc zero) = omega arith
@@ -49,7 +49,7 @@ initial-64 (suc (suc (suc zero))) = omega arith
 initial-64 (suc (suc (suc (suc zero)))) = omega arith
 initial-64 (suc (suc (suc (suc (suc j))))) = omega arith
 
-applied-64 : (n t : ℕ) → t < 2 ^ 64 → applied n t < 2 ^ 64
+pub applied-64 : (n t : ℕ) → t < 2 ^ 64 → applied n t < 2 ^ 64
 unfolding applied
 applied-64 zero t h = h
 applied-64 (suc n) t h = still-64 (applied n t) (applied-64 n t h)

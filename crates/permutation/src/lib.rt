@@ -28,7 +28,7 @@ const STARTS: [u32; 8] = [
 const START_4: u64 = 0x9a025047cff2a940;
 
 // 4.4: the generator's polynomial less its heading term, whole, and its halves for t_l and t_r.
-const MASK: u64 = 0xc4d6496c55c61c8d;
+pub const MASK: u64 = 0xc4d6496c55c61c8d;
 
 const MASK_L: u32 = 0xc4d6496c;
 
@@ -72,7 +72,7 @@ fn turn(t: Pair) -> Pair
 }
 
 // The same to one number, by the equations of 4.4.
-fn turn_whole(t: u64) -> u64
+pub fn turn_whole(t: u64) -> u64
     ensures { λ r. ⌜ r ≡ exchanged (fL t) ⌝ }
 {
     let f = (t << 1) ^ masked_whole(t, MASK);
@@ -80,7 +80,7 @@ fn turn_whole(t: u64) -> u64
 }
 
 // t_r of t_l || t_r.
-fn right(t: u64) -> u32
+pub fn right(t: u64) -> u32
     ensures { λ r. ⌜ r ≡ t % 2 ^ 32 ⌝ }
 {
     (t % 4294967296) as u32

@@ -1,0 +1,2 @@
+-- Laws of the injection undone.
+pub mod Parts

@@ -1,0 +1,3 @@
+-- Laws of the permutation undone.
+pub mod Generator
+pub mod Blocks

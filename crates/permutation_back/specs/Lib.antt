@@ -1,0 +1,2 @@
+-- The generator of the step constants, backwards.
+pub mod Generator

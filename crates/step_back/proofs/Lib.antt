@@ -1,0 +1,2 @@
+-- Laws of the step undone.
+pub mod Program
