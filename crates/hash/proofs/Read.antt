@@ -16,24 +16,10 @@ use Rattle.hash_definition.specs.Calls.{outcome, oddRefusal, longRefusal, recor
 use Rattle.hash_definition.specs.Lent.{lentOutcome, keptRefusal, lentFeedRefusals, lentFinishRefusals, lentFeedBitsOutcome, lentFinishOutcome}
 use Rattle.hash_definition.specs.Output.{outputBy, wordsRefusal, finishOutputRefusals, lentFinishOutputRefusals, finishOutputOutcome, lentFinishOutputOutcome}
 use Rattle.hash_record.specs.Reading.{framed, nothing, reading, written}
+use Rattle.hash_record.proofs.Altered.{altered-read}
 
 module _ (b : List ℕ) where
-  -- what a call that is done writes
-  once : (n : ℕ) (x y : Kept) → whenDone n (encode (whenDone n x y)) b ≡ whenDone n (encode x) b
-  unfolding whenDone
-  once zero x y = refl
-  once (suc n) x y = refl
-
   -- by whether the length is right and the reserved bytes are zero
-  feed-by : (p : List ℕ) (odd : ℕ) (l z : Bool)
-      → (let o : Lent = lentFeedBitsOutcome (pick (l && z) (decode b) nothing) p odd in
-      record { number = o .number; buffer = whenDone (o .number) (pick l (encode (o .kept)) b) b })
-      ≡ outcome ((RECORD, not (l && z && wellKept (decode b))) ∷ oddRefusal (decode b .odd) odd (length p) ∷ longRefusal (decode b .code) (bytesFed (decode b)) odd (length p) ∷ []) (encode (fedBits (decode b) p odd)) b
-  unfolding pick nothing wellKept wellHeld known lentFeedBitsOutcome lentOutcome lentFeedRefusals keptRefusal outcome firstOf whenDone
-  feed-by p odd true true = rw once
-  feed-by p odd true false = refl
-  feed-by p odd false z = refl
-
   finish-by : (out : List ℕ) (t : Bool)
       → lentFinishOutcome (pick t (decode b) nothing) out
       ≡ outcome ((RECORD, not (t && wellKept (decode b))) ∷ outRefusal (bytesAt (decode b .code)) (length out) ∷ []) (overwrite (finished (decode b)) out) out
@@ -52,8 +38,9 @@ module _ (b : List ℕ) where
 
   pub feed-read : (p : List ℕ) (odd : ℕ) (o : Lent) → o ≡ lentFeedBitsOutcome (reading b) p odd
       → record { number = o .number; buffer = whenDone (o .number) (written (o .kept) b) b } ≡ feedBitsOutcome b p odd
-  unfolding reading framed written feedBitsOutcome feedRefusals recordRefusal wellFormed
-  feed-read p odd o e = rw e (feed-by p odd (eqb (length b) recordLength) (allZero (take 6 (drop 2 b))))
+  unfolding feedBitsOutcome feedRefusals lentFeedBitsOutcome lentFeedRefusals
+  feed-read p odd =
+      altered-read (λ k. oddRefusal (k .odd) odd (length p) ∷ longRefusal (k .code) (bytesFed k) odd (length p) ∷ []) (λ k. fedBits k p odd) b
 
   pub finish-read : (out : List ℕ) → lentFinishOutcome (reading b) out ≡ finishOutcome b out
   unfolding reading framed finishOutcome finishRefusals recordRefusal wellFormed

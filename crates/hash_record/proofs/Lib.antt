@@ -1,2 +1,3 @@
 -- Laws that the proofs share.
 pub mod Places
+pub mod Altered
