@@ -5,6 +5,7 @@ ghost use mathlib.Core.Path.{_≡_};
 ghost use Rattle.hash_definition.specs.Calls.{digestBitsOutcome, digestOutcome, startOutcome, feedBitsOutcome, feedOutcome, finishOutcome};
 ghost use Rattle.hash_definition.specs.Lent.{lentStartOutcome, lentFeedBitsOutcome, lentFeedOutcome, lentFinishOutcome};
 ghost use Rattle.hash_definition.specs.Output.{outputBitsOutcome, outputOutcome, finishOutputOutcome, lentFinishOutputOutcome};
+ghost use Rattle.back_definition.specs.Back.{backOutcome};
 ghost use Rattle.sheet_definition.specs.SheetCalls.{buildOutcome, changeOutcome, appendOutcome, dropOutcome, batchOutcome, closeUpOutcome, ownOutcome};
 ghost use Rattle.sheet_definition.specs.SheetCalls.Kind.{Change, Append, Drop};
 ghost use Rattle.sheet_definition.specs.Own.{locatedAnswer};
@@ -101,6 +102,14 @@ pub extern "C" fn luffa_finish_output(record: &[u8], words: usize, out: &mut [u8
     ensures { λ r. ⌜ record { answer = r; buffer = now (out .exit) } ≡ finishOutputOutcome (now («record» .entry)) words (now (out .entry)) ⌝ }
 {
     hash::finish_output(record, words, out)
+}
+
+// A step back over the last block of what a hash record was fed.
+#[no_mangle]
+pub extern "C" fn luffa_back(record: &mut [u8], block: &[u8]) -> u32
+    ensures { λ r. ⌜ record { number = r; buffer = now («record» .exit) } ≡ backOutcome (now («record» .entry)) (now (block .entry)) ⌝ }
+{
+    hash_back::back(record, block)
 }
 
 // A fresh working state at a code, in a struct that the caller lends.

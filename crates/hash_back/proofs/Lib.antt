@@ -1,0 +1,3 @@
+-- Laws of stepping back over a record.
+pub mod Counts
+pub mod States
