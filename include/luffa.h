@@ -1,8 +1,8 @@
 /*
  * luffa.h: Luffa digests (Luffa specification 2.0.1) of 224, 256, 384 and 512 bits, in one call or
- * piece by piece, of messages that may stop inside a byte, with longer output where it is wanted, a sheet
- * of records that is saved under its digest, and what its records mean: whether they are sound, what they
- * send, and who depends on whom.
+ * piece by piece, also back over a block that was fed, of messages that may stop inside a byte, with longer
+ * output where it is wanted, a sheet of records that is saved under its digest, and what its records mean:
+ * whether they are sound, what they send, and who depends on whom.
  *
  * Every call answers a number: LUFFA_DONE, or the first refusal that holds, in the order listed at
  * the call. A refused call has altered nothing, so look at the answer before you use a buffer. The
@@ -68,6 +68,8 @@ extern "C" {
 #define LUFFA_LIST 25  /* a list has fewer places than the batch has records */
 /* 17 is given by the calls that take odd bits, or a piece for a record. */
 #define LUFFA_ODD 17   /* no message has these odd bits, or it has ended with odd bits already */
+/* 18 is given by luffa_back. */
+#define LUFFA_BACK 18  /* the message doesn't end with a whole block, or the block has another length */
 /* 19 to 22 are given by luffa_plan_reach. */
 #define LUFFA_HOPS 19    /* more hops than LUFFA_HOPS_MOST */
 #define LUFFA_UNSOUND 20 /* luffa_plan_check faults the sheet */
@@ -152,6 +154,9 @@ struct luffa_output_answer luffa_output_bits(size_t code, size_t words, const ui
  */
 #define LUFFA_RECORD_BYTES 216
 
+/* A block of the message, which luffa_back takes back as a whole. */
+#define LUFFA_BLOCK_BYTES 32
+
 /*
  * Makes the record of the empty message.
  *   1 LUFFA_WIDTH   code isn't 1 to 4
@@ -177,6 +182,21 @@ uint32_t luffa_feed(uint8_t *record, size_t record_len, const uint8_t *piece, si
 uint32_t luffa_feed_bits(uint8_t *record, size_t record_len, const uint8_t *piece, size_t piece_len, size_t odd);
 
 /*
+ * Takes back the last block of the message, as where a logger sends it again. The block is lent as it was fed,
+ * however it was cut then; the record becomes the one before it, its count LUFFA_BLOCK_BYTES less. A feed of the
+ * same block then makes it the record that was lent, to the last byte; and so does luffa_back after a feed of a
+ * block to a record without pending bytes.
+ *
+ * Which block was fed, the call can't know: with another one it is done too and leaves a well-formed record, but
+ * never the earlier one. Nor can it know how a message began: at a count of LUFFA_BLOCK_BYTES every state is taken,
+ * and the record that is left has count 0, but is luffa_start's only if this block was fed to that.
+ *   3 LUFFA_RECORD  the record isn't well formed
+ *  18 LUFFA_BACK    the record has pending bytes (its count isn't a multiple of LUFFA_BLOCK_BYTES) or odd bits,
+ *                   its count is less than LUFFA_BLOCK_BYTES, or block_len isn't LUFFA_BLOCK_BYTES
+ */
+uint32_t luffa_back(uint8_t *record, size_t record_len, const uint8_t *block, size_t block_len);
+
+/*
  * The digest of what was fed so far, in the first bytes of out. The bytes after it stay as they
  * were, and so does the record: it can be finished again or, without odd bits, fed on.
  *   3 LUFFA_RECORD  the record isn't well formed; its code is judged here, never as 1
@@ -197,9 +217,9 @@ struct luffa_output_answer luffa_finish_output(const uint8_t *record, size_t rec
 /*
  * The same within one program, over a struct that the caller lends: each feed alters it where it
  * stands, and no bytes are read or written as a record. Its fields are the record's, as the machine
- * holds them, its count in two words, and the same is well formed. To store it or to hand it to
- * another program, use a record. The pointer to it is valid and aligned, never null;
- * luffa_hash_start reads nothing from it that matters.
+ * holds them, its count in two words, and the same is well formed. To store it, to hand it to
+ * another program or to take a block back, use a record. The pointer to it is valid and aligned,
+ * never null; luffa_hash_start reads nothing from it that matters.
  */
 struct luffa_hash {
     size_t code, odd;
