@@ -10,12 +10,12 @@
 
 HOLDS(LUFFA_224 == 1 && LUFFA_256 == 2 && LUFFA_384 == 3 && LUFFA_512 == 4);
 HOLDS(LUFFA_224_BYTES == 28 && LUFFA_256_BYTES == 32 && LUFFA_384_BYTES == 48 && LUFFA_512_BYTES == 64);
-HOLDS(LUFFA_RECORD_BYTES == 216);
+HOLDS(LUFFA_RECORD_BYTES == 216 && LUFFA_BLOCK_BYTES == 32);
 HOLDS(LUFFA_LIMIT == ((uint64_t)1 << 61) - 1);
 HOLDS(LUFFA_DONE == 0 && LUFFA_WIDTH == 1 && LUFFA_OUT == 2 && LUFFA_RECORD == 3 && LUFFA_LONG == 4);
 HOLDS(LUFFA_SHEET == 5 && LUFFA_MARKS == 6 && LUFFA_PLACE == 7 && LUFFA_FULL == 8 && LUFFA_SIZE == 9);
 HOLDS(LUFFA_CLAIM == 10 && LUFFA_STALE == 11 && LUFFA_BATCH == 13 && LUFFA_LIST == 25 && LUFFA_BATCH_MOST == 64);
-HOLDS(LUFFA_ODD == 17 && LUFFA_WORDS == 12 && LUFFA_WORDS_MOST == 64);
+HOLDS(LUFFA_ODD == 17 && LUFFA_BACK == 18 && LUFFA_WORDS == 12 && LUFFA_WORDS_MOST == 64);
 HOLDS(LUFFA_SET == 14 && LUFFA_CHANGES_MOST == 64 && LUFFA_PLACES == 23);
 HOLDS(LUFFA_OWN == 15 && LUFFA_STALE_TAIL == 16 && LUFFA_WHERE_SAME == 0 && LUFFA_WHERE_GROUP == 1);
 HOLDS(LUFFA_HOPS == 19 && LUFFA_UNSOUND == 20 && LUFFA_WELL == 21 && LUFFA_REACH == 22 && LUFFA_HOPS_MOST == 3);
@@ -56,6 +56,7 @@ static uint32_t (*const digest_bits)(size_t, const uint8_t *, size_t, size_t, ui
 static uint32_t (*const start)(size_t, uint8_t *, size_t) = luffa_start;
 static uint32_t (*const feed)(uint8_t *, size_t, const uint8_t *, size_t) = luffa_feed;
 static uint32_t (*const feed_bits)(uint8_t *, size_t, const uint8_t *, size_t, size_t) = luffa_feed_bits;
+static uint32_t (*const back)(uint8_t *, size_t, const uint8_t *, size_t) = luffa_back;
 static uint32_t (*const finish)(const uint8_t *, size_t, uint8_t *, size_t) = luffa_finish;
 static uint32_t (*const hash_start)(size_t, struct luffa_hash *) = luffa_hash_start;
 static uint32_t (*const hash_feed)(struct luffa_hash *, const uint8_t *, size_t) = luffa_hash_feed;
@@ -115,6 +116,7 @@ int main(void)
            digest_bits(LUFFA_224, line, sizeof line, 7, out, sizeof out) != LUFFA_DONE ||
            start(LUFFA_512, record, sizeof record) != LUFFA_DONE ||
            feed(record, sizeof record, NULL, 0) != LUFFA_DONE ||
+           back(record, sizeof record, line, LUFFA_BLOCK_BYTES) != LUFFA_BACK ||
            feed_bits(record, sizeof record, line, sizeof line, 7) != LUFFA_DONE ||
            finish(record, sizeof record, out, sizeof out) != LUFFA_DONE ||
            hash_start(LUFFA_512, &hash) != LUFFA_DONE || hash_feed(&hash, NULL, 0) != LUFFA_DONE ||

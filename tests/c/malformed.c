@@ -1,5 +1,5 @@
-/* Every way in which a record can be malformed, one at a time: each is refused 3 by luffa_feed and
-   luffa_finish, before any other number, and by luffa_finish_output, before 2. What may be anything in
+/* Every way in which a record can be malformed, one at a time: each is refused 3 by luffa_feed, luffa_back
+   and luffa_finish, before any other number, and by luffa_finish_output, before 2. What may be anything in
    a well-formed record is taken. */
 #include "test.h"
 
@@ -14,6 +14,8 @@ static void refused(const uint8_t *record, size_t record_len)
     feed_call(LUFFA_RECORD, copy, record_len, piece, sizeof piece);
     feed_bits_call(LUFFA_RECORD, copy, record_len, piece, 1, 3);
     feed_bits_call(LUFFA_RECORD, copy, record_len, piece, 1, 8);
+    back_call(LUFFA_RECORD, copy, record_len, piece, BLOCK);
+    back_call(LUFFA_RECORD, copy, record_len, piece, BLOCK + 1);
     finish_call(LUFFA_RECORD, copy, record_len, 0, NULL);
     finish_call(LUFFA_RECORD, copy, record_len, LUFFA_224_BYTES - 1, NULL);
     finish_call(LUFFA_RECORD, copy, record_len, LUFFA_512_BYTES, NULL);

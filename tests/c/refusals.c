@@ -1,6 +1,6 @@
-/* The refusals of the one-call digest and of luffa_start, in their order. Those of feed and finish are
-   in malformed.c (3, also before 17, 4 and 2), bits.c (17, also before 4), limit.c (4) and digests.c
-   (2), and those of longer output in output.c. The 4 of a call for a whole message can't be had: no
+/* The refusals of the one-call digest and of luffa_start, in their order. Those of feed, back and finish are
+   in malformed.c (3, also before 17, 18, 4 and 2), bits.c (17, also before 4), limit.c (4), back.c (18) and
+   digests.c (2), and those of longer output in output.c. The 4 of a call for a whole message can't be had: no
    machine can lend a message of 2^61 bytes. */
 #include "test.h"
 

@@ -393,6 +393,47 @@ void feed_call(uint32_t want, uint8_t *record, size_t record_len, const uint8_t 
     check(memcmp(with_bits, record, record_len) == 0, "two records after a feed of %zu bytes", piece_len);
 }
 
+/* Whether `now` is a record of 32 bytes less than the one before, without pending bytes, state words that are used
+   aside. */
+static int is_back(const uint8_t *now, const uint8_t *before)
+{
+    size_t unused = STATE + state_bytes[before[0]];
+
+    return memcmp(now, before, STATE) == 0 && zeros(now + unused, COUNT - unused) &&
+           count_of(now) == count_of(before) - BLOCK;
+}
+
+void back_call(uint32_t want, uint8_t *record, size_t record_len, const uint8_t *block, size_t block_len)
+{
+    static struct lent r, b;
+    uint8_t *lent = lend(&r, record, record_len), *in = lend(&b, block, block_len);
+    int sealed = any_byte() == 0;
+
+    if (sealed)
+        protect(b.room, b.size, PROT_READ);
+    if (sealed && want != LUFFA_DONE)
+        protect(r.room, r.size, PROT_READ);
+    uint32_t got = luffa_back(lent, record_len, in, block_len);
+    if (sealed) {
+        protect(b.room, b.size, PROT_READ | PROT_WRITE);
+        protect(r.room, r.size, PROT_READ | PROT_WRITE);
+    }
+    check(answered(got, want, &r), "back over %zu bytes from a record of %zu: answered %u, wanted %u", block_len,
+          record_len, got, want);
+    check(kept(&r, want == LUFFA_DONE ? LUFFA_RECORD_BYTES : 0) && kept(&b, 0),
+          "back over %zu bytes from a record of %zu, answer %u: wrote outside the record", block_len, record_len, got);
+    if (want != LUFFA_DONE)
+        return;
+    check(is_back(lent, record), "back at code %u after %llu: wrong record", record[0],
+          (unsigned long long)count_of(record));
+    uint8_t again[LUFFA_RECORD_BYTES];
+    memcpy(again, lent, sizeof again);
+    feed_call(LUFFA_DONE, again, sizeof again, block, block_len);
+    check(memcmp(again, record, sizeof again) == 0, "back at code %u after %llu: a feed doesn't lead back", record[0],
+          (unsigned long long)count_of(record));
+    memcpy(record, lent, LUFFA_RECORD_BYTES);
+}
+
 void finish_call(uint32_t want, const uint8_t *record, size_t record_len, size_t out_len, uint8_t *digest)
 {
     static struct lent r, o;

@@ -26,6 +26,8 @@ extern const size_t no_code[18];
 /* Where the record's fields begin (Q-7 in document 02). */
 enum { STATE = 8, PENDING = 168, COUNT = 200 };
 
+enum { BLOCK = LUFFA_BLOCK_BYTES };
+
 /* The most odd bits, and numbers that are over it, some of them not once they are cut. */
 enum { MOST_ODD = 7 };
 extern const size_t no_odd[10];
@@ -72,6 +74,11 @@ void start_call(uint32_t want, size_t code, size_t record_len, uint8_t *record);
 void feed_bits_call(uint32_t want, uint8_t *record, size_t record_len, const uint8_t *piece, size_t piece_len,
                     size_t odd);
 void feed_call(uint32_t want, uint8_t *record, size_t record_len, const uint8_t *piece, size_t piece_len);
+
+/* Where done, all of the record is judged: its state words by a feed of the same block, which must lead back to the
+   record that was lent. Then `record` gets it. In one call of 256 the block can't be written, nor can the record where
+   the call is refused. */
+void back_call(uint32_t want, uint8_t *record, size_t record_len, const uint8_t *block, size_t block_len);
 
 /* Where done, `digest` gets the digest; it may be null. */
 void finish_call(uint32_t want, const uint8_t *record, size_t record_len, size_t out_len, uint8_t *digest);

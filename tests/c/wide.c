@@ -352,6 +352,25 @@ static void outputs(uint8_t *mapped, uint8_t *vast, size_t code)
     check(holds(mapped, record, 0) && holds(vast, record, 0), "words at code %zu refused, and something written", code);
 }
 
+/* A record of 2^32 + 216 bytes isn't one, and a block of 2^32 + 32 isn't one of 32, nor one of 2^32 none. */
+static void backs(uint8_t *mapped, size_t code)
+{
+    static const size_t lens[] = {0, 1, BLOCK - 1, BLOCK, BLOCK + 1};
+    uint8_t record[LUFFA_RECORD_BYTES], copy[LUFFA_RECORD_BYTES];
+
+    any_record(record, code, 64);
+    memcpy(copy, record, sizeof copy);
+    for (size_t i = 0; i < COUNT_OF(lens); i++)
+        check(luffa_back(record, sizeof record, mapped, WIDE + lens[i]) == LUFFA_BACK &&
+                  memcmp(record, copy, sizeof copy) == 0,
+              "back over 2^32 + %zu bytes at code %zu", lens[i], code);
+    memcpy(mapped, record, sizeof record);
+    check(luffa_back(mapped, WIDE + LUFFA_RECORD_BYTES, record, BLOCK) == LUFFA_RECORD &&
+              holds(mapped, record, sizeof record),
+          "back from a wide record at code %zu", code);
+    memset(mapped, 0, sizeof record);
+}
+
 int main(void)
 {
     uint8_t record[LUFFA_RECORD_BYTES], digest[LUFFA_512_BYTES];
@@ -375,6 +394,7 @@ int main(void)
         check(luffa_finish(mapped, WIDE + LUFFA_RECORD_BYTES, digest, sizeof digest) == LUFFA_RECORD,
               "finish of a wide record at code %zu", code);
         memset(mapped, 0, sizeof record);
+        backs(mapped, code);
 
         /* An output buffer of 2^32 bytes isn't one of none. */
         digest_call(LUFFA_DONE, code, record, sizeof record, sizeof digest, digest);
