@@ -87,6 +87,9 @@ pub enum Error {
     /// 17: more than 7 odd bits, odd bits without a byte that has them, or a record whose message has
     /// ended with odd bits.
     Odd,
+    /// 18: the message doesn't end with a whole block that could be taken back. `take_back` alone gives it, as
+    /// [`Luffa256::take_back`](crate::Luffa256::take_back) does; a block that isn't 32 bytes is never met.
+    Back,
     /// 19: a chain of more than three links was asked for. [`plan::reach()`](crate::plan::reach()) and
     /// [`plan::reach_into`](crate::plan::reach_into) alone give it and the two after it.
     Hops,
@@ -126,6 +129,7 @@ impl Error {
             Error::Own => 15,
             Error::StaleTail { .. } => 16,
             Error::Odd => 17,
+            Error::Back => 18,
             Error::Hops => 19,
             Error::Unsound => 20,
             Error::Well => 21,
@@ -211,6 +215,7 @@ impl Error {
             Error::Set,
             Error::Own,
             Error::Odd,
+            Error::Back,
             Error::Hops,
             Error::Unsound,
             Error::Well,
@@ -253,6 +258,7 @@ impl fmt::Display for Error {
             Error::Set => "there are more than 64 changes in one save, or their places don't rise",
             Error::Own => "these can't be the count and the marks of a sheet at this code",
             Error::Odd => "no message has these odd bits, or it has ended with odd bits already",
+            Error::Back => "there is no whole block to take back, or the block isn't 32 bytes",
             Error::Hops => "a chain of more than 3 links is asked for",
             Error::Unsound => "the sheet has a fault, which the check names",
             Error::Well => "no well of the sheet has this number",

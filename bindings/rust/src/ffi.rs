@@ -109,6 +109,7 @@ unsafe extern "C" {
         piece_len: usize,
         odd: usize,
     ) -> u32;
+    fn luffa_back(record: *mut u8, record_len: usize, block: *const u8, block_len: usize) -> u32;
     fn luffa_finish(record: *const u8, record_len: usize, out: *mut u8, out_len: usize) -> u32;
     fn luffa_finish_output(
         record: *const u8,
@@ -370,6 +371,13 @@ pub fn feed_bits(record: &mut [u8], piece: &[u8], odd: usize) -> Result<(), Erro
             odd,
         )
     };
+    Error::judge(number.into(), 0)
+}
+
+pub fn back(record: &mut [u8], block: &[u8]) -> Result<(), Error> {
+    let (record_len, block_len) = (record.len(), block.len());
+    // SAFETY: as in `feed`.
+    let number = unsafe { luffa_back(record.as_mut_ptr(), record_len, block.as_ptr(), block_len) };
     Error::judge(number.into(), 0)
 }
 

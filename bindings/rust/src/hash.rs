@@ -1,9 +1,10 @@
-//! The four hashes, each over the 216-byte record of the message fed so far. Messages that stop inside a
-//! byte are in bits.rs, and longer output is in output.rs.
+//! The four hashes, each over the 216-byte record of the message fed so far. Stepping back over a block is in
+//! back.rs, messages that stop inside a byte are in bits.rs, and longer output is in output.rs.
 
 use crate::{Code, Error, ffi};
 use std::{fmt, io};
 
+mod back;
 mod bits;
 #[cfg(test)]
 mod by_hand;
@@ -11,6 +12,7 @@ mod output;
 #[cfg(test)]
 mod tests;
 
+pub use back::BLOCK_BYTES;
 pub use output::OUTPUT_BYTES_MOST;
 
 /// The bytes of a kept hash record.

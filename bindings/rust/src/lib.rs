@@ -24,6 +24,18 @@
 //! # Ok::<(), Error>(())
 //! ```
 //!
+//! The last block of a message can be taken back, as where a logger sends it again; see
+//! [`Luffa256::take_back`]:
+//!
+//! ```
+//! use luffa::{Error, Luffa256};
+//!
+//! let mut hash = Luffa256::new().chain_update([1; 32]).chain_update([9; 32]);
+//! hash.take_back(&[9; 32])?;
+//! assert_eq!(hash.finalize(), Luffa256::digest([1; 32]));
+//! # Ok::<(), Error>(())
+//! ```
+//!
 //! Longer output, of which the digest is the beginning, fills a slice of up to 64 words; see
 //! [`Luffa256::finalize_output`]:
 //!
@@ -97,7 +109,9 @@ mod sheet;
 pub use code::Code;
 pub use digest::{Digest, ParseDigestError};
 pub use error::Error;
-pub use hash::{Luffa224, Luffa256, Luffa384, Luffa512, OUTPUT_BYTES_MOST, RECORD_BYTES};
+pub use hash::{
+    BLOCK_BYTES, Luffa224, Luffa256, Luffa384, Luffa512, OUTPUT_BYTES_MOST, RECORD_BYTES,
+};
 pub use sheet::{Mended, Moved, Opened, Saved, Sheet};
 
 /// The example in the README runs too.
