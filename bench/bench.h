@@ -53,6 +53,11 @@ typedef int sheet_check(size_t code, const uint8_t *message, size_t n, size_t *c
 /* Whether all are: of so many records to 20, and some to the most, at each code. Then it is printed with how often. */
 int each_sheet(const char *what, sheet_check *right, size_t least, const uint8_t *message);
 
+/* -- Stepping back over a block (back.c) -- */
+
+int check_backs(const uint8_t *message);
+void backs(const uint8_t *message);
+
 /* -- Messages that stop inside a byte (bits.c) -- */
 
 int check_bits(const uint8_t *message);

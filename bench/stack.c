@@ -1,4 +1,5 @@
 /* The stack of each call. */
+#include "back.h"
 #include "batch.h"
 #include "bench.h"
 #include "close.h"
@@ -79,14 +80,15 @@ static int stack_line(const char *name, size_t most, size_t bar)
 }
 
 /* The most stack of each call over codes, lengths and bytes held in the record; of the sheet calls, over codes and numbers of records, of which
-   every third is struck. A record to finish has odd bits, one to feed can't. Longer output is of all words. Wells are searched for from an
-   injector and from a producer. */
+   every third is struck. A record to finish has odd bits, one to feed can't, and one to take a block back from is of whole blocks. Longer output is
+   of all words. Wells are searched for from an injector and from a producer. */
 int stacks(const uint8_t *message)
 {
+    enum { ENDED = 1, WHOLE };
     static const struct {
         const char *name;
         work *run;
-        int of_ended;
+        int of;
     } CALLS[] = {
         {"luffa_digest", archive_digest, 0},
         {"luffa_digest_bits", archive_digest_bits, 0},
@@ -95,13 +97,14 @@ int stacks(const uint8_t *message)
         {"luffa_start", archive_start, 0},
         {"luffa_feed", archive_feed, 0},
         {"luffa_feed_bits", archive_feed_bits, 0},
-        {"luffa_finish", archive_finish, 1},
-        {"luffa_finish_output", archive_finish_output, 1},
+        {"luffa_back", archive_back, WHOLE},
+        {"luffa_finish", archive_finish, ENDED},
+        {"luffa_finish_output", archive_finish_output, ENDED},
         {"luffa_hash_start", archive_hash_start, 0},
         {"luffa_hash_feed", archive_hash_feed, 0},
         {"luffa_hash_feed_bits", archive_hash_feed_bits, 0},
-        {"luffa_hash_finish", archive_hash_finish, 1},
-        {"luffa_hash_finish_output", archive_hash_finish_output, 1},
+        {"luffa_hash_finish", archive_hash_finish, ENDED},
+        {"luffa_hash_finish_output", archive_hash_finish_output, ENDED},
     }, SHEET_CALLS[] = {
         {"luffa_sheet_build", archive_build, 0},
         {"luffa_sheet_change", archive_change_middle, 0},
@@ -134,10 +137,12 @@ int stacks(const uint8_t *message)
                     /* Without a byte there are none. */
                     job.odd = job.len > 0 ? 3 : 0;
                     job.words = LUFFA_WORDS_MOST;
-                    if (CALLS[i].of_ended) {
+                    if (CALLS[i].of == ENDED) {
                         archive_feed_bits(&job);
                         archive_hash_feed_bits(&job);
                     }
+                    if (CALLS[i].of == WHOLE)
+                        luffa_feed(job.record, sizeof job.record, message, BLOCK - HELD[k] % BLOCK);
                     size_t own = own_stack(CALLS[i].run, &job);
                     most = own > most ? own : most;
                 }
