@@ -8,7 +8,7 @@ use crate::luffa::*;
 use crate::sheet::{Record, Saved, Sheet, MARK_WORDS, MOST};
 use crate::{
     check_batch, check_bits, check_brine, check_close_up, check_mend, check_output, check_own,
-    check_plan, check_reach,
+    check_plan, check_reach, check_record,
 };
 use std::fmt::Debug;
 
@@ -146,6 +146,7 @@ pub fn differences() -> Vec<String> {
     check_batch::differences(&mut report, numbers);
     check_own::differences(&mut report, numbers);
     check_close_up::differences(&mut report, numbers);
+    check_record::differences(&mut report, numbers);
     report.0
 }
 

@@ -2,7 +2,7 @@
 //! four output lines are those of the digest program in the build requirements, `words` gives the
 //! longer output of document 02, `bits` takes a message that stops inside a byte, `plan` is the check
 //! of a sheet's content, `brine` the brine statement over a batch of sheets, `reach` tells who depends on a
-//! well, and `mend` finds the spoiled marks of a sheet.
+//! well, `mend` finds the spoiled marks of a sheet, and `record` keeps a message as a hash record.
 
 mod batch;
 mod bits;
@@ -17,6 +17,7 @@ mod check_output;
 mod check_own;
 mod check_plan;
 mod check_reach;
+mod check_record;
 mod close_up;
 mod luffa;
 mod mend;
@@ -24,6 +25,7 @@ mod output;
 mod own;
 mod plan;
 mod reach;
+mod record;
 mod sheet;
 
 use bits::BitLuffa;
@@ -31,6 +33,7 @@ use luffa::{digest, Luffa, CODES};
 use output::{Asked, Output};
 use plan::Well;
 use reach::Net;
+use record::Kept;
 use sheet::{Sheet, GROUP, MARK_WORDS, MOST, RECORD_BYTES};
 use std::fs::File;
 use std::io::{self, BufRead, BufReader, BufWriter, ErrorKind, Read, Write};
@@ -48,6 +51,7 @@ usage: independent               four digest lines for standard input
        independent reach WELL HOPS
                                  the records that at most HOPS links join to the well
        independent mend CODE N   which marks of a sheet of N records are wrong, and what they should be
+       independent record CODE N the hash record of the first N bits of standard input
        independent check         checks itself against the specification";
 
 /// The house limit on message bytes.
@@ -81,6 +85,10 @@ fn main() -> ExitCode {
         },
         ["mend", code, n] => match (code_of(code.as_bytes()), n.parse()) {
             (Some(code), Ok(n)) => mend_marks(code, n),
+            _ => return usage(),
+        },
+        ["record", code, n] => match (code_of(code.as_bytes()), n.parse()) {
+            (Some(code), Ok(n)) => kept_record(code, n),
             _ => return usage(),
         },
         ["check"] => check_all(),
@@ -367,6 +375,21 @@ fn mend_marks(code: usize, n: usize) -> io::Result<ExitCode> {
     );
     print(&text)?;
     Ok(ExitCode::SUCCESS)
+}
+
+fn print_record(record: &[u8]) -> io::Result<ExitCode> {
+    let digits: String = record.iter().map(|byte| format!("{byte:02x}")).collect();
+    print(&format!("{digits}\n"))?;
+    Ok(ExitCode::SUCCESS)
+}
+
+/// Fewer than 2^64 bits can be kept at every code.
+fn kept_record(code: usize, n: u64) -> io::Result<ExitCode> {
+    let Some(bytes) = bytes_of_bits(n)? else {
+        return Ok(ExitCode::FAILURE);
+    };
+    let bits = bits::bits_of(&bytes).take(n as usize);
+    print_record(&Kept::start(code).feed(bits).write())
 }
 
 fn check_all() -> io::Result<ExitCode> {
