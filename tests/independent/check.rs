@@ -7,8 +7,8 @@
 use crate::luffa::*;
 use crate::sheet::{Record, Saved, Sheet, MARK_WORDS, MOST};
 use crate::{
-    check_batch, check_bits, check_brine, check_close_up, check_mend, check_output, check_own,
-    check_plan, check_reach, check_record,
+    check_back, check_batch, check_bits, check_brine, check_close_up, check_mend, check_output,
+    check_own, check_plan, check_reach, check_record,
 };
 use std::fmt::Debug;
 
@@ -91,7 +91,7 @@ const PRINTED: [[[u64; 2]; 8]; 5] = [
 const MISPRINT: (usize, usize, usize) = (1, 5, 1);
 const CORRECTED: u64 = 0xfaa7ae2b;
 
-type Words = [u32; 8];
+pub type Words = [u32; 8];
 
 /// Collects what differs.
 pub struct Report(Vec<String>);
@@ -147,6 +147,7 @@ pub fn differences() -> Vec<String> {
     check_own::differences(&mut report, numbers);
     check_close_up::differences(&mut report, numbers);
     check_record::differences(&mut report, numbers);
+    check_back::differences(&mut report, numbers);
     report.0
 }
 
@@ -189,7 +190,7 @@ fn constants(report: &mut Report) {
 }
 
 /// Appendix D's instructions, left to right and line by line.
-fn appendix_d([mut r0, mut r1, mut r2, mut r3]: [u32; 4]) -> [u32; 4] {
+pub fn appendix_d([mut r0, mut r1, mut r2, mut r3]: [u32; 4]) -> [u32; 4] {
     let mut r4 = r0;
     r0 |= r1;
     r2 ^= r3;
@@ -244,7 +245,7 @@ fn sbox(report: &mut Report) {
 }
 
 /// MixWord's equations (4.3) on one pair of words.
-fn mix_pair(x_k: u32, x_k4: u32) -> [u32; 2] {
+pub fn mix_pair(x_k: u32, x_k4: u32) -> [u32; 2] {
     let mut y_k4 = x_k4 ^ x_k;
     let mut y_k = x_k.rotate_left(2);
     y_k ^= y_k4;
@@ -305,7 +306,7 @@ fn sum(mut a: Words, b: Words) -> Words {
 }
 
 /// The forms of MI in Appendix E.
-fn appendix_e(h: &[Words], m: Words) -> Vec<Words> {
+pub fn appendix_e(h: &[Words], m: Words) -> Vec<Words> {
     let w = h.len();
     let doubled = double(h.iter().fold([0; 8], |a, &h_j| sum(a, h_j)));
     // eta for w = 4 and 5; for w = 3 this is already the part that comes from H.

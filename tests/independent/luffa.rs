@@ -37,6 +37,15 @@ const MI_5: [&[u8]; 5] = [
     &[0x08, 0x0A, 0x0A, 0x08, 0x0F, 0x10],
 ];
 
+/// That of w blocks.
+pub fn matrix(w: usize) -> &'static [&'static [u8]] {
+    match w {
+        3 => &MI_3,
+        4 => &MI_4,
+        _ => &MI_5,
+    }
+}
+
 /// One more than the largest coefficient in the matrices.
 const COEFFICIENTS: usize = 0x11;
 
@@ -80,7 +89,7 @@ pub const INITIAL: [[u32; 2]; 5] = [
 ];
 
 /// The product in GF(2^8): first as polynomials, then reduced from the highest term down.
-fn multiply(a: u8, b: u8) -> u8 {
+pub fn multiply(a: u8, b: u8) -> u8 {
     let phi: u32 = PHI.iter().map(|e| 1 << e).sum();
     let mut product: u32 = (0..8)
         .filter(|i| b >> i & 1 == 1)
@@ -134,12 +143,12 @@ fn sub_crumb(column: u8) -> u8 {
 }
 
 /// The low nibble of each column: words 0 to 3.
-const LOW: u64 = 0x0f0f_0f0f_0f0f_0f0f;
+pub const LOW: u64 = 0x0f0f_0f0f_0f0f_0f0f;
 
 /// Rotating words n bits to the left moves each column up by n places, since bit l comes from bit
 /// l - n mod 32.
 #[inline(always)]
-fn rotate(x: &Block, n: usize) -> Block {
+pub fn rotate(x: &Block, n: usize) -> Block {
     let (whole, part) = (n / 8, n % 8);
     [0, 1, 2, 3].map(|i| {
         let here = x[(i + 4 - whole) % 4];
@@ -154,7 +163,7 @@ fn rotate(x: &Block, n: usize) -> Block {
 }
 
 #[inline(always)]
-fn xor(a: &Block, b: &Block) -> Block {
+pub fn xor(a: &Block, b: &Block) -> Block {
     [a[0] ^ b[0], a[1] ^ b[1], a[2] ^ b[2], a[3] ^ b[3]]
 }
 
@@ -200,7 +209,7 @@ pub struct Tables {
     /// Byte i of spread[b] is bit i of b: how a byte of a word falls over eight columns.
     spread: [u64; 256],
     /// constant[j][r]: c_{j,0} in bit 0 and c_{j,4} in bit 4 of the columns.
-    constant: [[Block; 8]; 5],
+    pub constant: [[Block; 8]; 5],
 }
 
 impl Tables {
@@ -243,7 +252,7 @@ impl Tables {
     }
 
     /// A message block of 32 bytes to columns; the first byte of a word is its highest (2.2).
-    fn message_columns(&self, m: &[u8; 32]) -> Block {
+    pub fn message_columns(&self, m: &[u8; 32]) -> Block {
         let mut words = [0; 8];
         for (word, x) in words.iter_mut().zip(m.chunks_exact(4)) {
             *word = u32::from_be_bytes([x[0], x[1], x[2], x[3]]);
@@ -253,13 +262,8 @@ impl Tables {
 
     /// MI (3.2.1 to 3.2.3): in each column, the matrix times the vector (H_0, ..., H_{w-1}, M).
     pub fn inject(&self, h: &mut [Block], m: &Block) {
-        let matrix: &[&[u8]] = match h.len() {
-            3 => &MI_3,
-            4 => &MI_4,
-            _ => &MI_5,
-        };
         let mut x = [[0; 4]; 5];
-        for (x_j, row) in x.iter_mut().zip(matrix) {
+        for (x_j, row) in x.iter_mut().zip(matrix(h.len())) {
             for (input, &c) in h.iter().chain([m]).zip(*row) {
                 *x_j = xor(x_j, &each_column(&self.product[c as usize], input));
             }
@@ -268,7 +272,7 @@ impl Tables {
     }
 
     /// Q_j (4.1): the tweak once, then eight steps.
-    fn permute(&self, b: &Block, j: usize) -> Block {
+    pub fn permute(&self, b: &Block, j: usize) -> Block {
         let mut a = tweak(b, j);
         for constant in &self.constant[j] {
             let x = each_column(&self.sub_crumb, &a);

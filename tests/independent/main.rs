@@ -2,12 +2,15 @@
 //! four output lines are those of the digest program in the build requirements, `words` gives the
 //! longer output of document 02, `bits` takes a message that stops inside a byte, `plan` is the check
 //! of a sheet's content, `brine` the brine statement over a batch of sheets, `reach` tells who depends on a
-//! well, `mend` finds the spoiled marks of a sheet, and `record` keeps a message as a hash record.
+//! well, `mend` finds the spoiled marks of a sheet, `record` keeps a message as a hash record, and `back` takes such a
+//! record's last block back.
 
+mod back;
 mod batch;
 mod bits;
 mod brine;
 mod check;
+mod check_back;
 mod check_batch;
 mod check_bits;
 mod check_brine;
@@ -33,7 +36,7 @@ use luffa::{digest, Luffa, CODES};
 use output::{Asked, Output};
 use plan::Well;
 use reach::Net;
-use record::Kept;
+use record::{Kept, RECORD};
 use sheet::{Sheet, GROUP, MARK_WORDS, MOST, RECORD_BYTES};
 use std::fs::File;
 use std::io::{self, BufRead, BufReader, BufWriter, ErrorKind, Read, Write};
@@ -52,6 +55,7 @@ usage: independent               four digest lines for standard input
                                  the records that at most HOPS links join to the well
        independent mend CODE N   which marks of a sheet of N records are wrong, and what they should be
        independent record CODE N the hash record of the first N bits of standard input
+       independent back          the record before the block that follows it on standard input
        independent check         checks itself against the specification";
 
 /// The house limit on message bytes.
@@ -91,6 +95,7 @@ fn main() -> ExitCode {
             (Some(code), Ok(n)) => kept_record(code, n),
             _ => return usage(),
         },
+        ["back"] => record_before(),
         ["check"] => check_all(),
         _ => return usage(),
     };
@@ -390,6 +395,18 @@ fn kept_record(code: usize, n: u64) -> io::Result<ExitCode> {
     };
     let bits = bits::bits_of(&bytes).take(n as usize);
     print_record(&Kept::start(code).feed(bits).write())
+}
+
+fn record_before() -> io::Result<ExitCode> {
+    // A byte more than a record and a block have shows that there are too many.
+    let most = RECORD + back::BLOCK_BYTES + 1;
+    let mut bytes = Vec::new();
+    input()?.take(most as u64).read_to_end(&mut bytes)?;
+    let (record, block) = bytes.split_at(bytes.len().min(RECORD));
+    match back::back(record, block) {
+        Ok(before) => print_record(&before),
+        Err(number) => failed(&format!("{number}\n")),
+    }
 }
 
 fn check_all() -> io::Result<ExitCode> {
