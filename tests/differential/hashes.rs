@@ -39,7 +39,7 @@ impl Numbers {
 
     /// A count that the code allows: small, about a power of two, about the most, about a multiple of
     /// 2^64 where there are such, or any.
-    fn count(&mut self, code: usize) -> u128 {
+    pub fn count(&mut self, code: usize) -> u128 {
         let most = most_bits(code) / 8;
         let any = ((self.next() as u128) << 64 | self.next() as u128) % (most + 1);
         match self.between(0, 4) {
@@ -52,7 +52,7 @@ impl Numbers {
     }
 
     /// A well-formed one, with any pending bits and any state words, at times all zero.
-    fn hash(&mut self, code: usize, count: u128, odd: usize) -> Hash {
+    pub fn hash(&mut self, code: usize, count: u128, odd: usize) -> Hash {
         let mut hash = Hash {
             odd,
             count_high: (count >> 64) as u64,
@@ -201,16 +201,27 @@ fn over_bits(code: usize) -> std::ops::Range<usize> {
     (most_bits(code) / 8).ilog2() as usize + 1..128
 }
 
-/// A record malformed in each way in turn, and last in some ways at once.
+/// A record malformed in each way.
 pub fn malformed(numbers: &mut Numbers, met: &mut Met) -> Agreed {
     let code = numbers.code();
     let odd = numbers.between(0, MOST_ODD);
     let hash = numbers.any_hash(code, odd);
-    let sound = write(&hash);
+    for (what, record) in spoiled(numbers, &hash)? {
+        met.see(what.clone());
+        refused(numbers, &what, record, met)?;
+    }
+    Ok(())
+}
+
+/// The record of a well-formed one spoiled in each way in turn, and last in some ways at once, with the ways' names.
+pub fn spoiled(numbers: &mut Numbers, hash: &Hash) -> Result<Vec<(String, Vec<u8>)>, String> {
+    let Hash { code, odd, .. } = *hash;
+    let sound = write(hash);
     let held = PENDING + (hash.count() % 32) as usize;
     // The first pending byte that no bit of the message stands in.
     let behind = held + (odd > 0) as usize;
     let mut worst = sound.clone();
+    let mut spoiled = vec![];
     for way in 0..9 {
         let mut record = sound.clone();
         let some = numbers.between(1, 255) as u8;
@@ -276,16 +287,15 @@ pub fn malformed(numbers: &mut Numbers, met: &mut Met) -> Agreed {
         if read(&record).is_some_and(|hash| hash.well_formed()) {
             return Err(format!("{what} leaves a record well formed\n"));
         }
-        let what = format!("malformed: {what}");
-        met.see(what.clone());
-        refused(numbers, &what, record.clone(), met)?;
         if record.len() == RECORD && numbers.between(0, 1) == 0 {
             for at in (0..RECORD).filter(|&at| record[at] != sound[at]) {
                 worst[at] = record[at];
             }
         }
+        spoiled.push((format!("malformed: {what}"), record));
     }
-    refused(numbers, "malformed: some ways", worst, met)
+    spoiled.push(("malformed: some ways".into(), worst));
+    Ok(spoiled)
 }
 
 fn refused(numbers: &mut Numbers, what: &str, mut record: Vec<u8>, met: &mut Met) -> Agreed {
