@@ -158,6 +158,22 @@ pub fn feed(record: &mut [u8], piece: &[u8], odd: usize, met: &mut Met) -> Agree
     Ok(())
 }
 
+/// Feeding that the archive does alone, and the record that it leaves.
+pub fn feed_alone(record: &mut Vec<u8>, piece: &[u8]) -> u32 {
+    let (mut r, mut p) = (Lent::new(record), Lent::new(piece));
+    let number = unsafe { luffa_feed(r.pointer(), record.len(), p.pointer(), piece.len()) };
+    *record = r.inside().to_vec();
+    number
+}
+
+/// The record of a message that the archive starts and feeds alone, as one piece.
+pub fn fed_alone(code: usize, message: &[u8]) -> Vec<u8> {
+    let mut record = vec![0; RECORD];
+    let number = unsafe { luffa_start(code, record.as_mut_ptr(), RECORD) };
+    assert_eq!((number, feed_alone(&mut record, message)), (0, 0));
+    record
+}
+
 pub fn hash_feed(hash: &mut Hash, piece: &[u8], odd: usize, met: &mut Met) -> Agreed {
     let before = *hash;
     let hold = model::feed_refusals(Some(hash), piece, odd);

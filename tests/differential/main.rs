@@ -1,8 +1,12 @@
 //! The archive against a model of its calls over the separately written program, on random messages, cuts, records,
-//! numbers of words, sheets, marks, sets of changes, struck wells, pairs of desks, planners' own marks, plans, their
-//! wells and batches of them: differential [SEED [CASES]]. Case k of a seed is case 0 of the seed k higher, so that
-//! one that failed is run again alone.
+//! steps back, numbers of words, sheets, marks, sets of changes, struck wells, pairs of desks, planners' own marks,
+//! plans, their wells and batches of them: differential [SEED [CASES]]. Case k of a seed is case 0 of the seed k higher,
+//! so that one that failed is run again alone.
 
+mod back_calls;
+mod back_kinds;
+mod back_model;
+mod backs;
 mod batch_kinds;
 mod batches;
 mod brine_kinds;
@@ -35,6 +39,8 @@ mod reach_model;
 mod reaches;
 mod sheet_model;
 
+#[path = "../independent/back.rs"]
+mod back;
 #[path = "../independent/batch.rs"]
 mod batch;
 #[path = "../independent/bits.rs"]
@@ -58,6 +64,8 @@ mod own;
 mod plan;
 #[path = "../independent/reach.rs"]
 mod reach;
+#[path = "../independent/record.rs"]
+mod record;
 #[path = "../independent/sheet.rs"]
 #[allow(dead_code)]
 mod sheet;
@@ -132,6 +140,12 @@ type Agreed = Result<(), String>;
 /// The cases of a run that isn't told how many.
 const CASES: u64 = 8000;
 
+/// The records of whole blocks of a case from which one is taken back, those that refuse it, and those that are spoiled
+/// in each way.
+const BACKS: usize = 3;
+const NO_BACKS: usize = 4;
+const SPOILED_BACKS: usize = 2;
+
 /// The messages and free records of a case that longer output is asked of.
 const OUTPUTS: usize = 4;
 
@@ -166,6 +180,17 @@ fn case(seed: u64, met: &mut Met) -> Agreed {
         hashes::malformed_struct(numbers, met)?;
         hashes::arguments(numbers, met)?;
     }
+    for _ in 0..BACKS {
+        backs::free(numbers, met)?;
+    }
+    for _ in 0..NO_BACKS {
+        backs::refused(numbers, met)?;
+    }
+    backs::edges(numbers, met)?;
+    for _ in 0..SPOILED_BACKS {
+        backs::malformed(numbers, met)?;
+    }
+    backs::history(numbers, met)?;
     for _ in 0..OUTPUTS {
         outputs::message(numbers, met)?;
         outputs::free_record(numbers, met)?;
@@ -216,6 +241,7 @@ fn main() {
     }
     let unmet = [
         hash_kinds::print(&met),
+        back_kinds::print(&met),
         output_kinds::print(&met),
         histories::print(&met),
         batch_kinds::print(&met),
