@@ -16,6 +16,15 @@ use definition::Pair;
 use definition::State;
 use definition::Width;
 
+// B-1: the generator at its start, c_L || c_R of each block. No step constant is stored.
+const STARTS: [u64; 5] = [
+    0x181cca53380cde06,
+    0x5b6f0876f16f8594,
+    0x7e106ce938979cb0,
+    0xbb62f36492e93c29,
+    0x9a025047cff2a940,
+];
+
 // One application of the generator undone: the exchange undoes itself, and f_L is undone by the lowest bit of what it gives. g is odd and twice a
 // number is even, so that bit is 1 exactly where g was taken away.
 fn turn_back(t: u64) -> u64
@@ -26,30 +35,19 @@ fn turn_back(t: u64) -> u64
     ((f % 2) << 63) | ((f ^ taken) >> 1)
 }
 
-// B-1: c_L || c_R of block j, and 0 where there is no such block. No step constant is stored.
+// B-1: c_L || c_R of block j. It is read from the table by a j that isn't known when this is compiled: five tests of j would let the compiler work
+// out where the generator ends from each start, and store that, of which half is a step constant.
 fn start(j: usize) -> u64
+    requires { ⌜ j < 5 ⌝ }
     ensures { λ r. ⌜ r ≡ initial j ⌝ }
 {
-    if j == 0 {
-        return 0x181cca53380cde06;
-    }
-    if j == 1 {
-        return 0x5b6f0876f16f8594;
-    }
-    if j == 2 {
-        return 0x7e106ce938979cb0;
-    }
-    if j == 3 {
-        return 0xbb62f36492e93c29;
-    }
-    if j == 4 {
-        return 0x9a025047cff2a940;
-    }
-    0
+    let starts = STARTS;
+    starts[j]
 }
 
 // The generator after the sixteen applications of eight steps.
 fn ended(j: usize) -> u64
+    requires { ⌜ j < 5 ⌝ }
     ensures { λ r. ⌜ r ≡ applied 16 (initial j) ⌝ }
 {
     let mut t = start(j);
@@ -61,6 +59,7 @@ fn ended(j: usize) -> u64
 
 // The eight steps undone, the last first; each takes its two constants from the generator on its way back.
 fn steps(j: usize, b: Block) -> Block
+    requires { ⌜ j < 5 ⌝ }
     ensures { λ r. ⌜ r ≡ stepsBack (constants j) b ⌝ }
 {
     let mut t = ended(j);
@@ -101,7 +100,7 @@ fn tweak(j: usize, b: Block) -> Block
 
 // Q_j undone where block j is one of the first n; zero where it isn't.
 fn block(n: usize, j: usize, b: Block) -> Block
-    requires { ⌜ j < 32 ⌝ }
+    requires { ⌜ j < 5 ⌝ }
     ensures { λ r. ⌜ r ≡ pick (ltb j n) (permuteBack j b) zeroBlock ⌝ }
 {
     if j < n {
