@@ -1,27 +1,24 @@
 -- Stepping back over what a record holds: a round of the same 32 bytes and a step back undo each other, and what is left is well kept.
 -- Assumes nothing.
 use mathlib.Core.Path.{_≡_, refl, sym, ap, _∙_}
-use mathlib.Core.Bool.{Bool, true, not, _||_}
-use mathlib.Core.List.{List, [], _∷_, _++_}
-use Prim.Native.Nat.{ℕ, zero, suc, _+_, _-_, _*_, _/_, _%_, _^_, _<_, _≤_}
-use native.Mathlib.Nat.{div-add-mod', add-sub-cancel}
+use mathlib.Core.Bool.{Bool, true, not}
+use mathlib.Core.List.{List, [], _∷_}
+use Prim.Native.Nat.{ℕ, _+_, _-_, _/_, _%_, _^_, _≤_}
+use native.Mathlib.Nat.{div-add-mod'}
 use native.Mathlib.Omega.{arith}
 use lib.Dec.{eqb, ltb}
-use lib.ListN.{length, getD, take, drop}
+use lib.ListN.{length}
 use borrow.Author.Tests.{eqb-true, ltb-false, not-false}
 use Rattle.definition.specs.declared.Block.{Block}
 use Rattle.definition.specs.declared.Width.{Width}
 use Rattle.definition.specs.Block.{blockOf}
-use Rattle.definition.specs.Padding.{blocks, rest}
 use Rattle.definition.specs.Round.{round, chain}
 use Rattle.definition.specs.Width.{blockCount, widthAt}
 use Rattle.definition.specs.State.{five, blocksIn, stateOf}
-use Rattle.definition.specs.Luffa.{limitAt}
-use Rattle.definition.specs.Refusal.{Refusal, RECORD, BACK, pick, firstOf, conditionOf}
+use Rattle.definition.specs.Refusal.{RECORD, BACK, pick, firstOf, conditionOf}
 use Rattle.hash_definition.specs.declared.Kept.{Kept}
 use Rattle.hash_definition.specs.Record.{withZeros, countOf, bytesFed, pendingCount, pendingBytes, wellKept, fed}
-use Rattle.hash_definition.specs.Lent.{keptRefusal}
-use Rattle.definition.proofs.Bounds.{Words, AllWords, five-words}
+use Rattle.definition.proofs.Bounds.{Words, five-words}
 use Rattle.definition.proofs.Chain.{blocks-of-state, blocks-of-round, length-blocksIn}
 use Rattle.definition.proofs.Conditions.{either-false}
 use Rattle.definition.proofs.Every.{every-take}
@@ -29,7 +26,7 @@ use Rattle.definition.proofs.Padding.{blocks-one, rest-whole}
 use Rattle.definition.proofs.Refusals.{fails}
 use Rattle.hash_definition.proofs.Feeding.{WellKept, well-kept, kept-well, Sound, zeros-after, fed-count, unused-zero, state-used, with-zeros-take, high-word, low-word}
 use Rattle.back_definition.specs.Round.{roundBack}
-use Rattle.back_definition.specs.Back.{backed, backRefusal, lentBackRefusals}
+use Rattle.back_definition.specs.Back.{backed, backRefusal}
 use Rattle.back_definition.proofs.Equations.{Rows}
 use Rattle.back_definition.proofs.Round.{round-back, round-forth, roundBack-rows}
 

@@ -3,17 +3,17 @@
 -- Assumes nothing.
 use mathlib.Core.Path.{_≡_, refl, sym, ap, ap₂, _∙_}
 use mathlib.Core.Bool.{Bool}
-use Prim.Native.Nat.{ℕ, zero, suc, _*_, _/_, _%_, _^_, _<_, _≤_}
-use native.Mathlib.Nat.{mod-lt, zero-lt-suc, pow-suc}
+use Prim.Native.Nat.{ℕ, zero, suc, _/_, _%_, _^_, _<_}
+use native.Mathlib.Nat.{pow-suc}
 use native.Mathlib.Omega.{arith}
 use lib.Bits.{bitXor, xor-lt}
 use lib.Dec.{T, eqb, eqb→eq}
 use lib.ListN.{getD}
 use lib.Pow.{pow-lt}
 use Rattle.definition.specs.declared.Block.{Block}
-use Rattle.definition.specs.Word.{bit, fromBits}
+use Rattle.definition.specs.Word.{bit}
 use Rattle.definition.specs.Block.{_⊕_, zeroBlock, wordsOf}
-use Rattle.definition.specs.Field.{double, keep, timesTo, times, element, timesX, multiple, product}
+use Rattle.definition.specs.Field.{double, keep, timesTo, times, element, product}
 use Rattle.definition.proofs.Bits.{bit-lt, fromBits-cong}
 use Rattle.definition.proofs.Bounds.{Words}
 use Rattle.definition.proofs.Cases.{everyBelow, at-below}

@@ -15,7 +15,7 @@ use Rattle.definition.specs.Injection.{inject}
 use Rattle.definition.specs.AppendixE.{power, xorTo, η, ξ, withoutMessage, forms, value, appendixE}
 use Rattle.definition.specs.Width.{blockCount}
 use Rattle.definition.specs.State.{five, blocksIn, stateOf}
-use Rattle.definition.proofs.Bounds.{Words, AllWords}
+use Rattle.definition.proofs.Bounds.{Words}
 use Rattle.definition.proofs.Chain.{blocks-of-state}
 use Rattle.definition.proofs.Injection.{forms-inject}
 use Rattle.back_definition.specs.Injection.{lessMessage, unring, sumOn, total, unspread, third, ring4, ring5, equationsBack, injectBack}

@@ -8,3 +8,4 @@ pub mod Round
 pub mod Back
 pub mod Records
 pub mod Outcomes
+pub mod Instances

@@ -1,12 +1,12 @@
 -- Stepping back over a hash record, in its 216 bytes: back then forward and forward then back return the first record, and a block other than the
 -- one fed gives a well-formed record that isn't the earlier one.
 -- Assumes nothing.
-use mathlib.Core.Path.{_≡_, refl, sym, ap, _∙_}
-use mathlib.Core.Bool.{true, false}
-use mathlib.Core.List.{List, [], _∷_, _++_, append-nil}
-use Prim.Native.Nat.{ℕ, _+_, _-_, _*_, _%_, _<_}
+use mathlib.Core.Path.{_≡_, sym, ap, _∙_}
+use mathlib.Core.Bool.{true}
+use mathlib.Core.List.{List, _++_, append-nil}
+use Prim.Native.Nat.{ℕ, _+_, _-_, _*_, _<_}
 use native.Mathlib.Omega.{arith}
-use lib.ListN.{length, getD, drop, drop-of-length-le}
+use lib.ListN.{length, getD, drop-of-length-le}
 use borrow.Author.Tests.{eq-eqb, le-ltb}
 use Rattle.definition.specs.declared.Block.{Block}
 use Rattle.definition.specs.declared.Width.{Width}
@@ -14,18 +14,18 @@ use Rattle.definition.specs.Block.{blockOf, wordsOf}
 use Rattle.definition.specs.Word.{bytesOfAll}
 use Rattle.definition.specs.Padding.{wholeBytes}
 use Rattle.definition.specs.Round.{round}
-use Rattle.definition.specs.State.{blocksIn, stateOf}
+use Rattle.definition.specs.State.{blocksIn}
 use Rattle.definition.specs.Width.{blockCount, widthAt}
 use Rattle.definition.specs.Luffa.{limitAt}
 use Rattle.definition.specs.Refusal.{pick, firstOf, whenDone}
 use Rattle.hash_definition.specs.declared.Kept.{Kept}
-use Rattle.hash_definition.specs.Record.{encode, decode, bytesFed, pendingCount, wellKept, wellFormed, fed, fedBits}
+use Rattle.hash_definition.specs.Record.{encode, decode, bytesFed, pendingCount, wellKept, wellFormed, fed}
 use Rattle.hash_definition.specs.Calls.{Outcome, outcome, recordRefusal, feedRefusals, feedBitsOutcome, feedOutcome}
 use Rattle.hash_definition.specs.Lent.{lentOutcome, keptRefusal}
-use Rattle.hash_definition.specs.Said.{done, taken, inBytes, Typed}
+use Rattle.hash_definition.specs.Said.{done, taken, inBytes}
 use Rattle.definition.proofs.Bounds.{Words, round-words}
 use Rattle.definition.proofs.Chain.{blocks-of-state, blocks-of-round, length-round}
-use Rattle.hash_definition.proofs.AnyRecord.{sound, block-words, any-fed}
+use Rattle.hash_definition.proofs.AnyRecord.{sound, block-words}
 use Rattle.hash_definition.proofs.Feeding.{well-kept, Sound, fed-sound, fed-count, fed-odd, fed-code}
 use Rattle.hash_definition.proofs.Formed.{formed}
 use Rattle.hash_definition.proofs.Records.{encode-decode, block-glue}

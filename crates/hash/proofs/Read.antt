@@ -3,17 +3,16 @@
 use mathlib.Core.Path.{_≡_, refl}
 use mathlib.Core.Bool.{Bool, true, false, not, _&&_}
 use mathlib.Core.List.{List, [], _∷_}
-use Prim.Native.Nat.{ℕ, zero, suc, _*_}
+use Prim.Native.Nat.{ℕ, _*_}
 use lib.Dec.{eqb}
 use lib.ListN.{length, take, drop}
 use Rattle.definition.specs.Luffa.{bytesAt}
 use Rattle.definition.specs.Buffer.{overwrite}
 use Rattle.definition.specs.Refusal.{RECORD, WORDS, pick, firstOf, known, outRefusal, whenDone}
-use Rattle.hash_definition.specs.declared.Kept.{Kept}
 use Rattle.hash_definition.specs.declared.Lent.{Lent}
-use Rattle.hash_definition.specs.Record.{recordLength, allZero, bytesFed, wellFormed, wellHeld, wellKept, encode, decode, fedBits, outputFrom, finished}
+use Rattle.hash_definition.specs.Record.{recordLength, allZero, bytesFed, wellFormed, wellHeld, wellKept, decode, fedBits, outputFrom, finished}
 use Rattle.hash_definition.specs.Calls.{outcome, oddRefusal, longRefusal, recordRefusal, feedRefusals, finishRefusals, feedBitsOutcome, finishOutcome}
-use Rattle.hash_definition.specs.Lent.{lentOutcome, keptRefusal, lentFeedRefusals, lentFinishRefusals, lentFeedBitsOutcome, lentFinishOutcome}
+use Rattle.hash_definition.specs.Lent.{keptRefusal, lentFeedRefusals, lentFinishRefusals, lentFeedBitsOutcome, lentFinishOutcome}
 use Rattle.hash_definition.specs.Output.{outputBy, wordsRefusal, finishOutputRefusals, lentFinishOutputRefusals, finishOutputOutcome, lentFinishOutputOutcome}
 use Rattle.hash_record.specs.Reading.{framed, nothing, reading, written}
 use Rattle.hash_record.proofs.Altered.{altered-read}

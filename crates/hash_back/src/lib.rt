@@ -1,7 +1,7 @@
 // Stepping back over a block of a kept hash record (document 02, Q-9): its refusals, 3 and 18, and the record before the block was fed.
 ghost use mathlib.Core.Path.{_≡_};
 ghost use mathlib.Core.List.{[], _∷_};
-ghost use Prim.Native.Nat.{_+_, _-_, _/_, _%_, _^_, _≤_};
+ghost use Prim.Native.Nat.{_-_, _/_, _%_, _^_, _≤_};
 ghost use lib.ListN.{length};
 ghost use Rattle.definition.specs.Refusal.{firstOf};
 ghost use Rattle.definition.specs.State.{blocksIn, stateOf};

@@ -78,7 +78,7 @@ unfolding everything started encode decode blockIn countWords numberAt
 held = refl
 
 -- what is written into a record is bytes
-bytes-all : (ws : List ℕ) → Every (λ x. x < 256) (bytesOfAll ws)
+pub bytes-all : (ws : List ℕ) → Every (λ x. x < 256) (bytesOfAll ws)
 unfolding bytesOfAll bytesOf
 bytes-all [] = tt
 bytes-all (w ∷ ws) = (omega arith, (omega arith, (omega arith, (omega arith, bytes-all ws))))

@@ -1,7 +1,7 @@
 -- What the code runs to undo SubCrumb, as a program of Appendix D's instructions on six registers: the law of such programs then needs the sixteen
 -- cases of S undone alone.
 -- Assumes nothing.
-use mathlib.Core.Path.{_≡_, _∙_}
+use mathlib.Core.Path.{_≡_}
 use mathlib.Core.List.{List, [], _∷_}
 use Prim.Native.Nat.{ℕ, _^_, _<_}
 use lib.Dec.{T}

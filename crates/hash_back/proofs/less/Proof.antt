@@ -1,6 +1,5 @@
 -- `hash_back::less` meets its contract: what the low word lacks is borrowed.
 -- Assumes nothing.
-use native.Mathlib.Omega.{arith}
 use borrow.Author.Needs.{needs}
 use Rattle.hash_back.proofs.Counts.{fewer}
 use Rattle.hash_back.proofs.less.Statement.{statement}

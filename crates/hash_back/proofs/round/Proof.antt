@@ -1,6 +1,6 @@
 -- `hash_back::round` meets its contract: the permutation undone, and the injection.
 -- Assumes nothing.
-use mathlib.Core.Path.{_≡_, ap, _∙_}
+use mathlib.Core.Path.{ap, _∙_}
 use mathlib.Core.List.{List}
 use Rattle.definition.specs.declared.Block.{Block}
 use Rattle.definition.specs.declared.State.{State}

@@ -1,6 +1,6 @@
 -- `injection_back::inject` meets its contract: the message, the rings and the spreading, each undone.
 -- Assumes nothing.
-use mathlib.Core.Path.{_≡_, ap, _∙_}
+use mathlib.Core.Path.{ap, _∙_}
 use mathlib.Core.List.{List}
 use Rattle.definition.specs.declared.Block.{Block}
 use Rattle.definition.specs.declared.State.{State}

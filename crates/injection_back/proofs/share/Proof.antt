@@ -1,6 +1,6 @@
 -- `injection_back::share` meets its contract: the sum divided by 3, or the sum itself.
 -- Assumes nothing.
-use mathlib.Core.Path.{sym, _∙_}
+use mathlib.Core.Path.{sym}
 use borrow.Author.Needs.{needs}
 use Rattle.definition.proofs.Field.{times-one}
 use Rattle.injection_back.proofs.share.Statement.{statement}

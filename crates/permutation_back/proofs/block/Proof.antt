@@ -1,7 +1,6 @@
 -- `permutation_back::block` meets its contract: the steps and then the tweak, where there is the block.
 -- Assumes nothing.
 use mathlib.Core.Path.{ap, _∙_}
-use native.Mathlib.Omega.{arith}
 use borrow.Author.Needs.{needs}
 use borrow.Author.Tests.{lt-ltb, le-ltb}
 use Rattle.definition.specs.Refusal.{pick}

@@ -1,6 +1,5 @@
 -- `permutation_back::permute` meets its contract: each block of the first w by itself.
 -- Assumes nothing.
-use mathlib.Core.Path.{_∙_}
 use borrow.Author.Needs.{needs}
 use Rattle.permutation_back.proofs.Blocks.{all-back}
 use Rattle.permutation_back.proofs.permute.Statement.{statement}
