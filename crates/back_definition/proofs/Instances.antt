@@ -7,10 +7,15 @@ use mathlib.Core.List.{List, _∷_, _++_}
 use Prim.Native.Nat.{ℕ, zero, suc, _<_}
 use native.Mathlib.Omega.{arith}
 use lib.ListN.{getD, replicate}
-use Rattle.definition.specs.Block.{wordsOfAll}
+use Rattle.definition.specs.declared.Width.the-variants.{W4, W5}
+use Rattle.definition.specs.Block.{zeroBlock, wordsOfAll}
+use Rattle.definition.specs.Round.{round}
+use Rattle.definition.specs.Start.{start}
 use Rattle.definition.specs.State.{five}
 use Rattle.definition.specs.Buffer.{Every}
 use Rattle.definition.specs.Padding.{rest}
+use Rattle.definition.proofs.Bounds.{start-words}
+use Rattle.definition.proofs.Chain.{length-start}
 use Rattle.definition.proofs.Computed.{everything}
 use Rattle.definition.proofs.Every.{every-at}
 use Rattle.hash_definition.specs.declared.Kept.{Kept}
@@ -22,6 +27,8 @@ use Rattle.back_definition.specs.Step.{SBack, wordBy, crumbBy, subCrumbB
 use Rattle.back_definition.specs.Injection.{lessMessage, ringSum, fromLast, unring, sumOn, total, unspread, equationsBack, injectBack}
 use Rattle.back_definition.specs.Round.{permuteBackFrom, roundBack}
 use Rattle.back_definition.specs.Back.{backed, backRefusal, backRefusals, backOutcome}
+use Rattle.back_definition.proofs.Field.{zero-words}
+use Rattle.back_definition.proofs.Round.{round-back, round-forth}
 use Rattle.back_definition.proofs.Records.{back-forward, forward-back, forward-back-none, other-block}
 
 -- a count of 2^64 at code 4, and two blocks
@@ -81,6 +88,13 @@ another = other-block (encode sample) sample-bytes sevens seven eights eight fed
   where
     differ : sevens ≡ eights → ⊥
     differ e = absurd (omega (arith, ap (λ (l : List ℕ). getD l 0 0) e))
+
+-- w blocks of words and a message block of words: round-back, round-forth, and what they stand on
+pub round-there : roundBack W5 (round W5 (start W5) zeroBlock) zeroBlock ≡ start W5
+round-there = round-back W5 (start W5) (length-start W5, start-words W5) zeroBlock zero-words
+
+pub round-here : round W4 (roundBack W4 (start W4) zeroBlock) zeroBlock ≡ start W4
+round-here = round-forth W4 (start W4) (length-start W4, start-words W4) zeroBlock zero-words
 
 -- computed: 32 bytes fed to a fresh record and taken back, at each w
 pub computed : (backed (fed (started 2) sevens) sevens ≡ started 2) × (backed (fed (started 3) sevens) sevens ≡ started 3) × (backed (fed (started 4) sevens) sevens ≡ started 4)

@@ -1,7 +1,8 @@
-// Blocks and states as every part above handles them: the block of zeros, XOR, the blocks that w uses, the number w,
+// Blocks and states as every part above handles them: the block of zeros, XOR, doubling, the blocks that w uses, the number w,
 // and the words of a state (source, 2.2 and 3.2).
 ghost use mathlib.Core.Path.{_≡_};
 ghost use Rattle.definition.specs.Block.{zeroBlock, _⊕_, wordsOfAll};
+ghost use Rattle.definition.specs.Field.{double as doubleOf};
 ghost use Rattle.definition.specs.Width.{blockCount};
 ghost use Rattle.definition.specs.State.{five, blocksIn, stateOf};
 use definition::Block;
@@ -37,6 +38,22 @@ pub fn xor(a: Block, b: Block) -> Block
         a5: a.a5 ^ b.a5,
         a6: a.a6 ^ b.a6,
         a7: a.a7 ^ b.a7,
+    }
+}
+
+// Multiplication by 0x02 (3.2).
+pub fn double(a: Block) -> Block
+    ensures { λ r. ⌜ r ≡ doubleOf a ⌝ }
+{
+    Block {
+        a0: a.a7,
+        a1: a.a0 ^ a.a7,
+        a2: a.a1,
+        a3: a.a2 ^ a.a7,
+        a4: a.a3 ^ a.a7,
+        a5: a.a4,
+        a6: a.a5,
+        a7: a.a6,
     }
 }
 

@@ -6,27 +6,12 @@ ghost use Rattle.definition.specs.Field.{double as doubleOf};
 ghost use Rattle.definition.specs.Injection.{inject as injectOf};
 ghost use Rattle.definition.specs.State.{blocksIn, stateOf};
 ghost use Rattle.definition.specs.declared.Width.the-variants.{W3, W4, W5};
+use blocks::double;
 use blocks::xor;
 use blocks::zero;
 use definition::Block;
 use definition::State;
 use definition::Width;
-
-// Multiplication by 0x02 (3.2).
-pub fn double(a: Block) -> Block
-    ensures { λ r. ⌜ r ≡ doubleOf a ⌝ }
-{
-    Block {
-        a0: a.a7,
-        a1: a.a0 ^ a.a7,
-        a2: a.a1,
-        a3: a.a2 ^ a.a7,
-        a4: a.a3 ^ a.a7,
-        a5: a.a4,
-        a6: a.a5,
-        a7: a.a6,
-    }
-}
 
 // 2a ^ b: ξ_j of E-3.
 fn twice_with(a: Block, b: Block) -> Block

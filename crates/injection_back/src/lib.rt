@@ -4,11 +4,12 @@ ghost use mathlib.Core.Path.{_≡_};
 ghost use mathlib.Core.List.{[], _∷_, _++_, reverse};
 ghost use Prim.Native.Nat.{_%_};
 ghost use Rattle.definition.specs.Block.{_⊕_};
-ghost use Rattle.definition.specs.Field.{double, keep, times as timesOf};
+ghost use Rattle.definition.specs.Field.{double as doubleOf, keep, times as timesOf};
 ghost use Rattle.definition.specs.State.{five, blocksIn, stateOf};
 ghost use Rattle.definition.specs.declared.Width.the-variants.{W4};
 ghost use Rattle.back_definition.specs.Injection.{lessMessage, ringSum, fromLast, unring, ring4, ring5, unspread as unspreadOf, injectBack};
 ghost use Rattle.injection_back.specs.Parts.{inverseAt, unringsAt};
+use blocks::double;
 use blocks::xor;
 use definition::Block;
 use definition::State;
@@ -23,9 +24,9 @@ const RING5: u32 = 0x6e;
 
 // y ^ 2e.
 fn with_twice(y: Block, e: Block) -> Block
-    ensures { λ r. ⌜ r ≡ y ⊕ double e ⌝ }
+    ensures { λ r. ⌜ r ≡ y ⊕ doubleOf e ⌝ }
 {
-    xor(y, injection::double(e))
+    xor(y, double(e))
 }
 
 // t, and b with it where the lowest bit is 1.
@@ -44,7 +45,7 @@ fn times(c: u32, b: Block) -> Block
 {
     let mut r = blocks::zero();
     for i in 0..8usize {
-        let t = injection::double(r);
+        let t = double(r);
         r = added(c >> (7 - i), b, t);
     }
     r
@@ -59,10 +60,10 @@ fn less_message(s: State, m: Block) -> State
     let x2 = s.h2;
     let x3 = s.h3;
     let x4 = s.h4;
-    let m1 = injection::double(m);
-    let m2 = injection::double(m1);
-    let m3 = injection::double(m2);
-    let m4 = injection::double(m3);
+    let m1 = double(m);
+    let m2 = double(m1);
+    let m3 = double(m2);
+    let m4 = double(m3);
     State {
         h0: xor(x0, m),
         h1: xor(x1, m1),
@@ -174,7 +175,7 @@ fn unspread(w: Width, s: State) -> State
     let e3 = u.h3;
     let e4 = u.h4;
     let sum = xor(xor(xor(xor(e0, e1), e2), e3), e4);
-    let t = injection::double(share(w, sum));
+    let t = double(share(w, sum));
     let h = State {
         h0: xor(e0, t),
         h1: xor(e1, t),

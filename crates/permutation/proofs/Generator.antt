@@ -1,15 +1,10 @@
 -- The generator beside a block is that of 4.4: after i steps it has made 2i applications, in one number or in two words, and the steps taken are
 -- those of the constants that it gives.
 -- Assumes nothing.
-use mathlib.Core.Path.{_≡_, refl, sym, ap, _∙_}
+use mathlib.Core.Path.{_≡_, refl, ap, _∙_}
 use mathlib.Core.Bool.{true}
-use mathlib.Core.Logic.{⊎-elim}
-use Prim.Native.Nat.{ℕ, zero, suc, _+_, _-_, _*_, _/_, _%_, _^_, _<_}
-use native.Mathlib.Nat.{add-zero, zero-mul, one-mul, mod-eq-of-lt, eq-or-lt-of-le, mul-mod-left}
-use native.Mathlib.Numerals.{add-one}
+use Prim.Native.Nat.{ℕ, zero, suc, _-_, _*_, _^_, _<_}
 use native.Mathlib.Omega.{arith}
-use lib.Bits.{bitAnd, bitOr, and-zero-l, and-comm, and-mask, or-shifted}
-use lib.Pow.{mod-pow-add, shl-shr}
 use Rattle.definition.specs.declared.Block.{Block}
 use Rattle.definition.specs.Constant.{fL, exchanged, initial, constantsFrom}
 use Rattle.definition.specs.AppendixB.{halvesOf}
@@ -17,42 +12,9 @@ use Rattle.definition.specs.Permutation.{step, steps}
 use Rattle.definition.proofs.Constant.{pseudo-step, second-step, still-64, right-half}
 use Rattle.permutation.specs.declared.Going.{Going}
 use Rattle.permutation.specs.declared.Alone.{Alone}
-use Rattle.permutation.specs.Lanes.{begun, begunAlone, goOn, goOnAlone, after, fifthAfter, applied}
-
--- a bit taken from 0 is a mask, at any width
-pub masks-out : (w r b m : ℕ) → b < 2 → r < 2 ^ w → m < 2 ^ w → (r + b) % 2 ^ w ≡ 0 → bitAnd r m ≡ b * m
-masks-out w r zero m hb hr hm e =
-    let z : r ≡ 0 = sym (mod-eq-of-lt hr) ∙ (rw (add-zero r) at e) in
-    rw (z, zero-mul m) (and-zero-l m)
-masks-out w r (suc zero) m hb hr hm e = ⊎-elim full (λ h. absurd (omega (arith, mod-eq-of-lt h, rw (add-one r) at e))) (eq-or-lt-of-le hr)
-  where
-    full : suc r ≡ 2 ^ w → bitAnd r m ≡ 1 * m
-    full f =
-        let z : r ≡ 2 ^ w - 1 = omega arith in
-        rw (z, one-mul m, and-comm (2 ^ w - 1) m, and-mask m w) (mod-eq-of-lt hm)
-masks-out w r (suc (suc b)) m hb hr hm e = absurd (omega arith)
-
--- the exchange as a rotation
-pub rotated : (t : ℕ) → t < 2 ^ 64 → bitOr (t * 2 ^ 32 % 2 ^ 64) (t / 2 ^ 32) ≡ exchanged t
-unfolding exchanged
-rotated t h =
-    let e : t * 2 ^ 32 % 2 ^ 64 ≡ t % 2 ^ 32 * 2 ^ 32 = mod-pow-add (t * 2 ^ 32) 32 32 ∙ rw (shl-shr t 32, mul-mod-left t (2 ^ 32), add-zero) in
-    rw e (or-shifted (t % 2 ^ 32) 32 (t / 2 ^ 32) (omega arith))
-
--- each start is a number of 64 bits, and so is all that the generator makes of it
-pub initial-64 : (j : ℕ) → initial j < 2 ^ 64
-unfolding initial
-initial-64 zero = omega arith
-initial-64 (suc zero) = omega arith
-initial-64 (suc (suc zero)) = omega arith
-initial-64 (suc (suc (suc zero))) = omega arith
-initial-64 (suc (suc (suc (suc zero)))) = omega arith
-initial-64 (suc (suc (suc (suc (suc j))))) = omega arith
-
-pub applied-64 : (n t : ℕ) → t < 2 ^ 64 → applied n t < 2 ^ 64
-unfolding applied
-applied-64 zero t h = h
-applied-64 (suc n) t h = still-64 (applied n t) (applied-64 n t h)
+use Rattle.permutation.specs.Lanes.{begun, begunAlone, goOn, goOnAlone, after, fifthAfter}
+use Rattle.generator.specs.Turns.{applied}
+use Rattle.generator.proofs.Turns.{initial-64, applied-64}
 
 -- the generator in the loop: after i steps of Q_j, whichever of the five it is, one number has made 2i applications
 pub generator-alone : (i j : ℕ) (a : Block) → fifthAfter i true (begunAlone j a) .t ≡ applied (2 * i) (initial j)

@@ -40,11 +40,6 @@ unfoldable pub after : (i : ℕ) → Going → Going
 after zero g = g
 after (suc i) g = goOn (after i g)
 
--- 4.4: the generator's number t_L || t_R after n applications, each f_L and then the exchange
-unfoldable pub applied : (n t : ℕ) → ℕ
-applied zero t = t
-applied (suc n) t = exchanged (fL (applied n t))
-
 -- the j-th of four
 abbrev pub lane : ℕ → List ℕ → Going
 lane j v =

@@ -1,8 +1,7 @@
 // The permutation P: Q_j on each block of a state (source, 4.1 and 4.5), with the generator of the step constants (4.4) beside each block. Four
 // blocks are stepped side by side.
 ghost use mathlib.Core.Path.{_≡_};
-ghost use Prim.Native.Nat.{_*_, _/_, _%_, _^_, _<_};
-ghost use Rattle.definition.specs.Constant.{fL, exchanged};
+ghost use Prim.Native.Nat.{_*_, _/_, _^_, _<_};
 ghost use Rattle.definition.specs.Permutation.{tweak as tweakOf};
 ghost use Rattle.definition.specs.Round.{permuteFrom};
 ghost use Rattle.definition.specs.State.{blocksIn, stateOf};
@@ -27,9 +26,7 @@ const STARTS: [u32; 8] = [
 
 const START_4: u64 = 0x9a025047cff2a940;
 
-// 4.4: the generator's polynomial less its heading term, whole, and its halves for t_l and t_r.
-pub const MASK: u64 = 0xc4d6496c55c61c8d;
-
+// 4.4: the halves for t_l and t_r of the generator's polynomial less its heading term.
 const MASK_L: u32 = 0xc4d6496c;
 
 const MASK_R: u32 = 0x55c61c8d;
@@ -53,12 +50,6 @@ fn masked(x: u32, mask: u32) -> u32
     std::num::wrapping_sub_u32(0, x >> 31) & mask
 }
 
-fn masked_whole(x: u64, mask: u64) -> u64
-    ensures { λ r. ⌜ r ≡ x / 2 ^ 63 * mask ⌝ }
-{
-    std::num::wrapping_sub_u64(0, x >> 63) & mask
-}
-
 // One application of the generator to two words, by the pseudo code of 4.4: f_L, then the exchange.
 fn turn(t: Pair) -> Pair
     ensures { λ r. ⌜ r ≡ pseudoStep t ⌝ }
@@ -69,21 +60,6 @@ fn turn(t: Pair) -> Pair
         left: tr ^ masked(t.left, MASK_R),
         right: tl ^ masked(t.left, MASK_L),
     }
-}
-
-// The same to one number, by the equations of 4.4.
-pub fn turn_whole(t: u64) -> u64
-    ensures { λ r. ⌜ r ≡ exchanged (fL t) ⌝ }
-{
-    let f = (t << 1) ^ masked_whole(t, MASK);
-    (f << 32) | (f >> 32)
-}
-
-// t_r of t_l || t_r.
-pub fn right(t: u64) -> u32
-    ensures { λ r. ⌜ r ≡ t % 2 ^ 32 ⌝ }
-{
-    (t % 4294967296) as u32
 }
 
 // One step of Q_j: the generator applied twice, and its t_r each time the next constant.
@@ -108,11 +84,11 @@ fn go_on_alone(g: Alone) -> Alone
     ensures { λ r. ⌜ r ≡ goOnAlone g ⌝ }
 {
     let a = g.a;
-    let t1 = turn_whole(g.t);
-    let t2 = turn_whole(t1);
+    let t1 = generator::turn_whole(g.t);
+    let t2 = generator::turn_whole(t1);
     let c = Pair {
-        left: right(t1),
-        right: right(t2),
+        left: generator::right(t1),
+        right: generator::right(t2),
     };
     Alone {
         t: t2,

@@ -11,8 +11,8 @@ use lib.Pow.{mod-pow-add, shl-shr, shr-lt}
 use Rattle.definition.specs.declared.Block.{Block}
 use Rattle.definition.specs.Constant.{g, fL, exchanged, initial, constantsFrom}
 use Rattle.definition.proofs.Constant.{masks, exchanged-words, f-64, still-64, right-half}
-use Rattle.permutation.specs.Lanes.{applied}
-use Rattle.permutation.proofs.Generator.{masks-out, initial-64, applied-64}
+use Rattle.generator.specs.Turns.{applied}
+use Rattle.generator.proofs.Turns.{masks-out, initial-64, applied-64}
 use Rattle.back_definition.specs.Step.{stepBack, stepsBack}
 use Rattle.back_definition.proofs.Words.{xor-back}
 use Rattle.permutation_back.specs.Generator.{fLBack}

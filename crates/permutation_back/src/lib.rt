@@ -7,7 +7,7 @@ ghost use Rattle.definition.specs.Block.{zeroBlock};
 ghost use Rattle.definition.specs.Constant.{exchanged, initial, constants};
 ghost use Rattle.definition.specs.Refusal.{pick};
 ghost use Rattle.definition.specs.State.{blocksIn, stateOf};
-ghost use Rattle.permutation.specs.Lanes.{applied};
+ghost use Rattle.generator.specs.Turns.{applied};
 ghost use Rattle.back_definition.specs.Step.{stepsBack, tweakBack, permuteBack};
 ghost use Rattle.back_definition.specs.Round.{permuteBackFrom};
 ghost use Rattle.permutation_back.specs.Generator.{fLBack};
@@ -31,7 +31,7 @@ fn turn_back(t: u64) -> u64
     ensures { λ r. ⌜ r ≡ fLBack (exchanged t) ⌝ }
 {
     let f = (t << 32) | (t >> 32);
-    let taken = std::num::wrapping_sub_u64(0, f % 2) & permutation::MASK;
+    let taken = std::num::wrapping_sub_u64(0, f % 2) & generator::MASK;
     ((f % 2) << 63) | ((f ^ taken) >> 1)
 }
 
@@ -52,7 +52,7 @@ fn ended(j: usize) -> u64
 {
     let mut t = start(j);
     for i in 0..16usize {
-        t = permutation::turn_whole(t);
+        t = generator::turn_whole(t);
     }
     t
 }
@@ -67,8 +67,8 @@ fn steps(j: usize, b: Block) -> Block
     for i in 0..8usize {
         let t1 = turn_back(t);
         let c = Pair {
-            left: permutation::right(t1),
-            right: permutation::right(t),
+            left: generator::right(t1),
+            right: generator::right(t),
         };
         t = turn_back(t1);
         a = step_back::step(c, a);

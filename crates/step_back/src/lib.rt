@@ -5,7 +5,7 @@ use definition::Block;
 use definition::Crumb;
 use definition::Pair;
 
-// SubCrumb undone at all 32 bits at once: S undone in nine instructions for its four outputs, and three complements.
+// SubCrumb undone at all 32 bits at once, in eleven instructions and two complements.
 pub fn sub_crumb(x0: u32, x1: u32, x2: u32, x3: u32) -> Crumb
     ensures { λ r. ⌜ r ≡ subCrumbBack x0 x1 x2 x3 ⌝ }
 {

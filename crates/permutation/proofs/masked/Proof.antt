@@ -3,7 +3,7 @@
 use Prim.Native.Nat.{_/_, _^_}
 use native.Mathlib.Omega.{arith}
 use borrow.Author.Needs.{needs}
-use Rattle.permutation.proofs.Generator.{masks-out}
+use Rattle.generator.proofs.Turns.{masks-out}
 use Rattle.permutation.proofs.masked.Statement.{statement}
 use Rattle.permutation.proofs.masked.Tie as tie
 

@@ -5,7 +5,7 @@ use Prim.Native.Nat.{_≤_, _-_}
 use native.Mathlib.Numerals.{add-one}
 use native.Mathlib.Omega.{arith}
 use borrow.Author.Needs.{needs}
-use Rattle.permutation.specs.Lanes.{applied}
+use Rattle.generator.specs.Turns.{applied}
 use Rattle.permutation_back.proofs.ended.Statement.{statement}
 use Rattle.permutation_back.proofs.ended.Tie as tie
 

@@ -5,7 +5,7 @@ use Prim.Native.Nat.{_-_, _*_, _≤_}
 use native.Mathlib.Omega.{arith}
 use borrow.Author.Needs.{needs}
 use Rattle.definition.specs.Constant.{initial, constantsFrom, constants}
-use Rattle.permutation.specs.Lanes.{applied}
+use Rattle.generator.specs.Turns.{applied}
 use Rattle.back_definition.specs.Step.{stepsBack}
 use Rattle.permutation_back.proofs.Generator.{once-more}
 use Rattle.permutation_back.proofs.steps.Statement.{statement}

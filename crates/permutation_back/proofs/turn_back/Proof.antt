@@ -1,7 +1,7 @@
 -- `permutation_back::turn_back` meets its contract: the code has the shape of the exchange and of f_L undone.
 -- Assumes nothing.
 use borrow.Author.Needs.{needs}
-use Rattle.permutation.proofs.Generator.{rotated}
+use Rattle.generator.proofs.Turns.{rotated}
 use Rattle.permutation_back.proofs.Generator.{exchanged-64, by-mask}
 use Rattle.permutation_back.proofs.turn_back.Statement.{statement}
 use Rattle.permutation_back.proofs.turn_back.Tie as tie

@@ -1,11 +1,11 @@
--- `permutation::masked_whole` meets its contract: a bit taken from 0 is a mask.
+-- `generator::masked_whole` meets its contract: a bit taken from 0 is a mask.
 -- Assumes nothing.
 use Prim.Native.Nat.{_/_, _^_}
 use native.Mathlib.Omega.{arith}
 use borrow.Author.Needs.{needs}
-use Rattle.permutation.proofs.Generator.{masks-out}
-use Rattle.permutation.proofs.masked_whole.Statement.{statement}
-use Rattle.permutation.proofs.masked_whole.Tie as tie
+use Rattle.generator.proofs.Turns.{masks-out}
+use Rattle.generator.proofs.masked_whole.Statement.{statement}
+use Rattle.generator.proofs.masked_whole.Tie as tie
 
 returns : tie.Need-returns
 returns c =

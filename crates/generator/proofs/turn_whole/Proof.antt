@@ -1,11 +1,11 @@
--- `permutation::turn_whole` meets its contract: the code has the shape of 4.4's equations.
+-- `generator::turn_whole` meets its contract: the code has the shape of 4.4's equations.
 -- Assumes nothing.
 use borrow.Author.Needs.{needs}
 use Rattle.definition.specs.Constant.{fL}
 use Rattle.definition.proofs.Constant.{masks, f-64}
-use Rattle.permutation.proofs.Generator.{rotated}
-use Rattle.permutation.proofs.turn_whole.Statement.{statement}
-use Rattle.permutation.proofs.turn_whole.Tie as tie
+use Rattle.generator.proofs.Turns.{rotated}
+use Rattle.generator.proofs.turn_whole.Statement.{statement}
+use Rattle.generator.proofs.turn_whole.Tie as tie
 
 returns : tie.Need-returns
 unfolding fL

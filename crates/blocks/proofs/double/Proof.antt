@@ -1,10 +1,10 @@
--- `injection::double` meets its contract, whose definition has the same shape.
+-- `blocks::double` meets its contract, whose definition has the same shape.
 -- Assumes nothing.
 use mathlib.Core.Path.{refl}
 use Rattle.definition.specs.Block.{_⊕_}
 use Rattle.definition.specs.Field.{double}
-use Rattle.injection.proofs.double.Statement.{statement}
-use Rattle.injection.proofs.double.Tie as tie
+use Rattle.blocks.proofs.double.Statement.{statement}
+use Rattle.blocks.proofs.double.Tie as tie
 
 returns : tie.Need-returns
 unfolding _⊕_ double

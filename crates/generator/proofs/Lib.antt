@@ -1,0 +1,2 @@
+-- Laws of the generator.
+pub mod Turns

@@ -1,0 +1,2 @@
+-- The generator of the step constants, applied again and again.
+pub mod Turns
