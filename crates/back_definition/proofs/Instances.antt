@@ -23,7 +23,7 @@ use Rattle.hash_definition.specs.Record.{encode, decode, blockIn, countWords, n
 use Rattle.hash_definition.specs.Calls.{Outcome, outcome, oddRefusal, longRefusal, recordRefusal, feedRefusals, feedBitsOutcome, feedOutcome}
 use Rattle.hash_definition.specs.Said.{done}
 use Rattle.hash_definition.proofs.Instances.{counting, bytes-all}
-use Rattle.back_definition.specs.Step.{SBack, wordBy, crumbBy, subCrumbBack, mixWordBack, onHalves, onPairs, subCrumbsBack, mixWordsBack, stepBack, stepsBack, tweakBack, permuteBack}
+use Rattle.back_definition.specs.Step.{SBack, wordBy, crumbBy, subCrumbBack, mixWordBack, subCrumbsBack, mixWordsBack, stepBack, stepsBack, tweakBack, permuteBack}
 use Rattle.back_definition.specs.Injection.{lessMessage, ringSum, fromLast, unring, sumOn, total, unspread, equationsBack, injectBack}
 use Rattle.back_definition.specs.Round.{permuteBackFrom, roundBack}
 use Rattle.back_definition.specs.Back.{backed, backRefusal, backRefusals, backOutcome}
@@ -98,5 +98,5 @@ round-here = round-forth W4 (start W4) (length-start W4, start-words W4) zeroBlo
 
 -- computed: 32 bytes fed to a fresh record and taken back, at each w
 pub computed : (backed (fed (started 2) sevens) sevens ≡ started 2) × (backed (fed (started 3) sevens) sevens ≡ started 3) × (backed (fed (started 4) sevens) sevens ≡ started 4)
-unfolding everything started fed countOf bytesFed pendingCount pendingBytes withZeros rest backed roundBack permuteBackFrom permuteBack tweakBack stepsBack stepBack mixWordsBack subCrumbsBack onPairs onHalves mixWordBack subCrumbBack crumbBy wordBy SBack injectBack equationsBack lessMessage ringSum fromLast unring unspread total sumOn
+unfolding everything started fed countOf bytesFed pendingCount pendingBytes withZeros rest backed roundBack permuteBackFrom permuteBack tweakBack stepsBack stepBack mixWordsBack subCrumbsBack mixWordBack subCrumbBack crumbBy wordBy SBack injectBack equationsBack lessMessage ringSum fromLast unring unspread total sumOn
 computed = (refl, refl, refl)

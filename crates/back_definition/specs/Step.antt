@@ -10,7 +10,7 @@ use Rattle.definition.specs.declared.Pair.{Pair}
 use Rattle.definition.specs.Word.{bit, fromBits, rotl}
 use Rattle.definition.specs.SubCrumb.{sboxInput}
 use Rattle.definition.specs.Constant.{constants}
-use Rattle.definition.specs.Permutation.{tweak, addConstant}
+use Rattle.definition.specs.Permutation.{tweak, onHalves, onPairs, addConstant}
 
 -- 4.2: the Sbox undone, the number whose S is n
 unfoldable pub SBack : ℕ → ℕ
@@ -42,40 +42,7 @@ mixWordBack left right =
     let x0 : ℕ = rotl 30 (bitXor y0 y4) in
     record { left = x0; right = bitXor y4 x0 }
 
--- 4.1 and 4.2: what is done to four words, done to both halves of a block as 4.1 does SubCrumb
-unfoldable pub onHalves : ((a0 a1 a2 a3 : ℕ) → Crumb) → Block → Block
-onHalves f b =
-    let x : Crumb = f (b .a0) (b .a1) (b .a2) (b .a3) in
-    let y : Crumb = f (b .a5) (b .a6) (b .a7) (b .a4) in
-    record {
-      a0 = x .x0;
-      a1 = x .x1;
-      a2 = x .x2;
-      a3 = x .x3;
-      a4 = y .x3;
-      a5 = y .x0;
-      a6 = y .x1;
-      a7 = y .x2;
-    }
-
--- 4.1: what is done to two words, done to each of a block's four pairs as 4.1 does MixWord
-unfoldable pub onPairs : ((left right : ℕ) → Pair) → Block → Block
-onPairs f b =
-    let y0 : Pair = f (b .a0) (b .a4) in
-    let y1 : Pair = f (b .a1) (b .a5) in
-    let y2 : Pair = f (b .a2) (b .a6) in
-    let y3 : Pair = f (b .a3) (b .a7) in
-    record {
-      a0 = y0 .left;
-      a1 = y1 .left;
-      a2 = y2 .left;
-      a3 = y3 .left;
-      a4 = y0 .right;
-      a5 = y1 .right;
-      a6 = y2 .right;
-      a7 = y3 .right;
-    }
-
+-- 4.1 and 4.2: on both halves of a block, and on its four pairs
 unfoldable pub subCrumbsBack : Block → Block
 subCrumbsBack = onHalves subCrumbBack
 

@@ -16,7 +16,7 @@ use Rattle.definition.specs.Block.{zeroBlock, wordsOf, wordsOfAll}
 use Rattle.definition.specs.SubCrumb.{S, sboxInput, subWord, subCrumb}
 use Rattle.definition.specs.MixWord.{mixWord}
 use Rattle.definition.specs.Constant.{constantsFrom, constants}
-use Rattle.definition.specs.Permutation.{subCrumbs, mixWords, addConstant, step, steps, permute}
+use Rattle.definition.specs.Permutation.{onHalves, onPairs, subCrumbs, mixWords, addConstant, step, steps, permute}
 use Rattle.definition.specs.Injection.{inject}
 use Rattle.definition.specs.Round.{permuteFrom, round, chain}
 use Rattle.definition.specs.Width.{blockCount}
@@ -60,7 +60,7 @@ unfolding subWord
 subWord-lt k a0 a1 a2 a3 = fromBits-lt 32 (λ l. bit k (S (sboxInput a0 a1 a2 a3 l))) (λ l. bit-lt k (S (sboxInput a0 a1 a2 a3 l)))
 
 pub sub-words : (a : Block) → Words (subCrumbs a)
-unfolding subCrumbs subCrumb
+unfolding subCrumbs onHalves subCrumb
 sub-words a = search subWord-lt
 
 -- MixWord gives words from words
@@ -76,7 +76,7 @@ mix-words x0 x4 h0 h4 =
     record { left-word = xor-lt 32 (rotl 10 y0) z4 (rotl-lt 10 y0 k0) l4; right-word = rotl-lt 1 z4 l4 }
 
 mixed-words : (x : Block) → Words x → Words (mixWords x)
-unfolding mixWords
+unfolding mixWords onPairs
 mixed-words x h =
     omega (
       arith,

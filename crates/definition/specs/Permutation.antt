@@ -24,11 +24,11 @@ tweak j b =
       a7 = rotl j (b .a7);
     }
 
--- 4.1 and 4.2: SubCrumb(a0, a1, a2, a3); SubCrumb(a5, a6, a7, a4)
-unfoldable pub subCrumbs : Block → Block
-subCrumbs a =
-    let x : Crumb = subCrumb (a .a0) (a .a1) (a .a2) (a .a3) in
-    let y : Crumb = subCrumb (a .a5) (a .a6) (a .a7) (a .a4) in
+-- 4.1 and 4.2: what is done to four words, done to both halves of a block: a0, a1, a2, a3, and a5, a6, a7, a4
+unfoldable pub onHalves : ((a0 a1 a2 a3 : ℕ) → Crumb) → Block → Block
+onHalves f a =
+    let x : Crumb = f (a .a0) (a .a1) (a .a2) (a .a3) in
+    let y : Crumb = f (a .a5) (a .a6) (a .a7) (a .a4) in
     record {
       a0 = x .x0;
       a1 = x .x1;
@@ -40,13 +40,17 @@ subCrumbs a =
       a7 = y .x2;
     }
 
--- 4.1: MixWord(a_k, a_k+4) for k from 0 to 3
-unfoldable pub mixWords : Block → Block
-mixWords x =
-    let y0 : Pair = mixWord (x .a0) (x .a4) in
-    let y1 : Pair = mixWord (x .a1) (x .a5) in
-    let y2 : Pair = mixWord (x .a2) (x .a6) in
-    let y3 : Pair = mixWord (x .a3) (x .a7) in
+-- 4.1 and 4.2: SubCrumb(a0, a1, a2, a3); SubCrumb(a5, a6, a7, a4)
+unfoldable pub subCrumbs : Block → Block
+subCrumbs = onHalves subCrumb
+
+-- 4.1: what is done to two words, done to a_k and a_k+4 for k from 0 to 3
+unfoldable pub onPairs : ((x0 x4 : ℕ) → Pair) → Block → Block
+onPairs f x =
+    let y0 : Pair = f (x .a0) (x .a4) in
+    let y1 : Pair = f (x .a1) (x .a5) in
+    let y2 : Pair = f (x .a2) (x .a6) in
+    let y3 : Pair = f (x .a3) (x .a7) in
     record {
       a0 = y0 .left;
       a1 = y1 .left;
@@ -57,6 +61,10 @@ mixWords x =
       a6 = y2 .right;
       a7 = y3 .right;
     }
+
+-- 4.1: MixWord(a_k, a_k+4) for k from 0 to 3
+unfoldable pub mixWords : Block → Block
+mixWords = onPairs mixWord
 
 -- 4.4: AddConstant, into words 0 and 4
 unfoldable pub addConstant : Pair → Block → Block

@@ -1,11 +1,11 @@
 -- `step::step` meets its contract: it is 4.1's step, put together from SubCrumb and MixWord.
 -- Assumes nothing.
-use Rattle.definition.specs.Permutation.{subCrumbs, mixWords, addConstant, step as stepOf}
+use Rattle.definition.specs.Permutation.{onHalves, onPairs, subCrumbs, mixWords, addConstant, step as stepOf}
 use Rattle.step.proofs.step.Statement.{statement}
 use Rattle.step.proofs.step.Tie as tie
 
 returns : tie.Need-returns
-unfolding stepOf addConstant mixWords subCrumbs
+unfolding stepOf addConstant mixWords subCrumbs onHalves onPairs
 returns c =
     let d4 = c .before .before .before .before in
     let d3 = d4 .before in

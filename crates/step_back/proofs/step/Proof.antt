@@ -1,7 +1,7 @@
 -- `step_back::step` meets its contract: it is the step undone, put together from MixWord and SubCrumb undone.
 -- Assumes nothing.
-use Rattle.definition.specs.Permutation.{addConstant}
-use Rattle.back_definition.specs.Step.{onHalves, onPairs, subCrumbsBack, mixWordsBack, stepBack}
+use Rattle.definition.specs.Permutation.{onHalves, onPairs, addConstant}
+use Rattle.back_definition.specs.Step.{subCrumbsBack, mixWordsBack, stepBack}
 use Rattle.step_back.proofs.step.Statement.{statement}
 use Rattle.step_back.proofs.step.Tie as tie
 
