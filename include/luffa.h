@@ -1,6 +1,6 @@
 /*
  * luffa.h: Luffa digests (Luffa specification 2.0.1) of 224, 256, 384 and 512 bits, in one call or
- * piece by piece, also back over a block that was fed, of messages that may stop inside a byte, with longer
+ * piece by piece, of messages that may stop inside a byte, also back over a block that was fed, with longer
  * output where it is wanted, a sheet of records that is saved under its digest, and what its records mean:
  * whether they are sound, what they send, and who depends on whom.
  *
@@ -184,8 +184,8 @@ uint32_t luffa_feed_bits(uint8_t *record, size_t record_len, const uint8_t *piec
 /*
  * Takes back the last block of the message, as where a logger sends it again. The block is lent as it was fed,
  * however it was cut then; the record becomes the one before it, its count LUFFA_BLOCK_BYTES less. A feed of the
- * same block then makes it the record that was lent, to the last byte; and so does luffa_back after a feed of a
- * block to a record without pending bytes.
+ * same block then makes it the record that was lent, to the last byte. Likewise luffa_back, after a feed of a block
+ * to a record without pending bytes, makes that record again.
  *
  * Which block was fed, the call can't know: with another one it is done too and leaves a well-formed record, but
  * never the earlier one. Nor can it know how a message began: at a count of LUFFA_BLOCK_BYTES every state is taken,

@@ -1,6 +1,6 @@
 /* Stepping back over a block: forward then back and back then forward, of records that messages lead to and of any
-   others, other blocks than the one fed, the counts at which it borrows, a logger that sends a block again, and what is
-   refused 18. That 3 comes before it is in malformed.c too. */
+   others, blocks fed where bytes are pending, other blocks than the one fed, the counts at which it borrows, a logger
+   that sends a block again, and what is refused 18. That 3 comes before it is in malformed.c too. */
 #include "test.h"
 
 static void same(const uint8_t *record, const uint8_t *wanted, const char *what)
@@ -24,8 +24,11 @@ static void both_ways(size_t code, bytes_fed count)
         feed_call(LUFFA_DONE, record, sizeof record, block, BLOCK);
         same(record, first, "back then forward");
     }
-    if (count > most_bytes(code) - BLOCK)
+    if (count > most_bytes(code) - BLOCK) {
+        feed_call(LUFFA_LONG, record, sizeof record, block, BLOCK);
+        same(record, first, "a feed past the limit");
         return;
+    }
     feed_call(LUFFA_DONE, record, sizeof record, block, BLOCK);
     back_call(LUFFA_DONE, record, sizeof record, block, BLOCK);
     same(record, first, "forward then back");
@@ -50,6 +53,19 @@ static void counts(size_t code)
     }
     both_ways(code, most_bytes(code) - (2 * BLOCK - 1));
     both_ways(code, most_bytes(code) - (BLOCK - 1));
+}
+
+/* With bytes pending a block can be fed, but not taken back: it isn't the last one then. */
+static void still_pending(size_t code)
+{
+    uint8_t record[LUFFA_RECORD_BYTES], block[BLOCK];
+
+    fill(block, sizeof block);
+    for (bytes_fed pending = 1; pending < BLOCK; pending++) {
+        any_record(record, code, BLOCK + pending);
+        feed_call(LUFFA_DONE, record, sizeof record, block, BLOCK);
+        back_call(LUFFA_BACK, record, sizeof record, block, BLOCK);
+    }
 }
 
 /* States of one bit, at its place in each word that is used, and the state of zeros; likewise blocks. */
@@ -262,6 +278,7 @@ int main(void)
 {
     for (size_t code = 1; code <= 4; code++) {
         counts(code);
+        still_pending(code);
         single_bits(code);
         first_block(code);
         chain(code);

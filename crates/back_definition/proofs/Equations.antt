@@ -3,7 +3,7 @@
 -- Assumes nothing.
 use mathlib.Core.Path.{_≡_, refl, sym, ap, ap₂, _∙_}
 use mathlib.Core.List.{List, [], _∷_, map, reverse, reverseAux}
-use Prim.Native.Nat.{ℕ, zero, suc, _^_, _<_}
+use Prim.Native.Nat.{ℕ, zero, suc, _+_, _^_, _<_}
 use native.Mathlib.Omega.{arith}
 use lib.Bits.{bitXor}
 use lib.Dec.{T}
@@ -142,24 +142,24 @@ spread hs =
     map (λ h. h ⊕ t) hs
 
 -- n times a block
-pub oddly : ℕ → Block → Block
-oddly zero t = zeroBlock
-oddly (suc n) t = t ⊕ oddly n t
+pub timesOver : ℕ → Block → Block
+timesOver zero t = zeroBlock
+timesOver (suc n) t = t ⊕ timesOver n t
 
-oddly-two : (n : ℕ) (t : Block) → oddly (suc (suc n)) t ≡ oddly n t
-unfolding oddly
-oddly-two n t = sym (⊕-assoc t t (oddly n t)) ∙ ap (λ (x : Block). x ⊕ oddly n t) (⊕-self t) ∙ zero-⊕ (oddly n t)
+two-over : (n : ℕ) (t : Block) → timesOver (suc (suc n)) t ≡ timesOver n t
+unfolding timesOver
+two-over n t = sym (⊕-assoc t t (timesOver n t)) ∙ ap (λ (x : Block). x ⊕ timesOver n t) (⊕-self t) ∙ zero-⊕ (timesOver n t)
 
-sum-added : (a c t : Block) (bs : List Block) → sumOn (a ⊕ c) (map (λ b. b ⊕ t) bs) ≡ sumOn a bs ⊕ (c ⊕ oddly (length bs) t)
-unfolding sumOn oddly
+sum-added : (a c t : Block) (bs : List Block) → sumOn (a ⊕ c) (map (λ b. b ⊕ t) bs) ≡ sumOn a bs ⊕ (c ⊕ timesOver (length bs) t)
+unfolding sumOn timesOver
 sum-added a c t [] = ap (λ (x : Block). a ⊕ x) (sym (⊕-zero c))
 sum-added a c t (b ∷ bs) =
     ap (λ (x : Block). sumOn x (map (λ b. b ⊕ t) bs)) (⊕-swap a c b t)
     ∙ sum-added (a ⊕ b) (c ⊕ t) t bs
-    ∙ ap (λ (x : Block). sumOn (a ⊕ b) bs ⊕ x) (⊕-assoc c t (oddly (length bs) t))
+    ∙ ap (λ (x : Block). sumOn (a ⊕ b) bs ⊕ x) (⊕-assoc c t (timesOver (length bs) t))
 
-total-added : (t : Block) (bs : List Block) → total (map (λ b. b ⊕ t) bs) ≡ total bs ⊕ oddly (length bs) t
-unfolding total oddly
+total-added : (t : Block) (bs : List Block) → total (map (λ b. b ⊕ t) bs) ≡ total bs ⊕ timesOver (length bs) t
+unfolding total timesOver
 total-added t [] = sym (zero-⊕ zeroBlock)
 total-added t (b ∷ bs) = sum-added b t t bs
 
@@ -178,8 +178,8 @@ total-words (b ∷ bs) k = on b bs (k .0) (k .1)
 
 -- the spreading over n blocks undone by a constant, where the constant undoes what it makes of the sum
 pub record Spread (n c : ℕ) : Type 0 where
-  pub sum-back : (s : Block) → Words s → times c (s ⊕ oddly n (double s)) ≡ s
-  pub sum-forth : (s : Block) → Words s → s ⊕ oddly n (double (times c s)) ≡ times c s
+  pub sum-back : (s : Block) → Words s → times c (s ⊕ timesOver n (double s)) ≡ s
+  pub sum-forth : (s : Block) → Words s → s ⊕ timesOver n (double (times c s)) ≡ times c s
 
 module _ (n c : ℕ) (u : Spread n c) where
   pub spread-back : (hs : List Block) → length hs ≡ n → AllWords hs → unspread c (spread hs) ≡ hs
@@ -194,38 +194,40 @@ module _ (n c : ℕ) (u : Spread n c) where
       let t : Block = double (times c (total es)) in
       rw (total-added t es, e, u .sum-forth (total es) (total-words es k)) (map-back t es)
 
--- 1 / 3 where n is odd, and 1 where it is even
-pub odd-spread : (n : ℕ) → ((t : Block) → oddly n t ≡ t) → Spread n third
+-- n times a block is zero where n is even, and the block where it is odd
+even-over : (k : ℕ) (t : Block) → timesOver (k + k) t ≡ zeroBlock
+unfolding timesOver
+even-over zero t = refl
+even-over (suc k) t =
+    let e : suc k + suc k ≡ suc (suc (k + k)) = omega arith in
+    rw e (two-over (k + k) t ∙ even-over k t)
+
+odd-over : (k : ℕ) (t : Block) → timesOver (suc (k + k)) t ≡ t
+unfolding timesOver
+odd-over k t = ap (λ (x : Block). t ⊕ x) (even-over k t) ∙ ⊕-zero t
+
+-- so the sum is undone by 1 / 3 where the number of blocks is odd, and by 1 where it is even
+pub odd-spread : (k : ℕ) → Spread (suc (k + k)) third
 unfolding undoes product multiple timesX bit power
-odd-spread n o =
+odd-spread k =
     record {
-      sum-back = λ s h. ap (λ (x : Block). times third (s ⊕ x)) (o (double s)) ∙ ap (times third) (sym (times-ring 1 s (omega arith))) ∙ divided third 3 tt s h;
+      sum-back =
+          λ s h.
+          ap (λ (x : Block). times third (s ⊕ x)) (odd-over k (double s)) ∙ ap (times third) (sym (times-ring 1 s (omega arith))) ∙ divided third 3 tt s h;
       sum-forth =
           λ s h.
           let q : Block = times third s in
-          ap (λ (x : Block). s ⊕ x) (o (double q))
+          ap (λ (x : Block). s ⊕ x) (odd-over k (double q))
           ∙ ap (λ (x : Block). x ⊕ double q) (sym (divided 3 third tt s h) ∙ times-ring 1 q (omega arith))
           ∙ ⊕-back q (double q);
     }
 
-pub even-spread : (n : ℕ) → ((t : Block) → oddly n t ≡ zeroBlock) → Spread n 1
-even-spread n o =
+pub even-spread : (k : ℕ) → Spread (k + k) 1
+even-spread k =
     record {
-      sum-back = λ s h. times-one _ ∙ ap (λ (x : Block). s ⊕ x) (o (double s)) ∙ ⊕-zero s;
-      sum-forth = λ s h. ap (λ (x : Block). s ⊕ x) (o (double (times 1 s))) ∙ ⊕-zero s ∙ sym (times-one s);
+      sum-back = λ s h. times-one _ ∙ ap (λ (x : Block). s ⊕ x) (even-over k (double s)) ∙ ⊕-zero s;
+      sum-forth = λ s h. ap (λ (x : Block). s ⊕ x) (even-over k (double (times 1 s))) ∙ ⊕-zero s ∙ sym (times-one s);
     }
-
-pub odd3 : (t : Block) → oddly 3 t ≡ t
-unfolding oddly
-odd3 t = oddly-two 1 t ∙ ⊕-zero t
-
-pub even4 : (t : Block) → oddly 4 t ≡ zeroBlock
-unfolding oddly
-even4 t = oddly-two 2 t ∙ oddly-two 0 t
-
-pub odd5 : (t : Block) → oddly 5 t ≡ t
-unfolding oddly
-odd5 t = oddly-two 3 t ∙ odd3 t
 
 -- n blocks of words stay n blocks of words
 abbrev pub Rows : (n : ℕ) → List Block → Type 0

@@ -112,11 +112,6 @@ unfoldable pub power : ℕ → Block → Block
 power zero b = b
 power (suc n) b = double (power n b)
 
-pub power-words : (n : ℕ) (b : Block) → Words b → Words (power n b)
-unfolding power
-power-words zero b h = h
-power-words (suc n) b h = double-words _ (power-words n b h)
-
 times-power : (n : ℕ) (b : Block) → n < 8 → times (2 ^ n) b ≡ power n b
 unfolding power
 times-power zero b h = times-one b

@@ -1,5 +1,5 @@
 -- The message injection is undone, either way round, for a fixed message block: Appendix E's equations, which give the matrices of 3.2.1 to 3.2.3,
--- are those that are undone over any number of blocks. Which of them a w has, and their constants, are the source's at each w.
+-- are those that are undone over any number of blocks. Which of them a w has is the source's; the constants follow from it.
 -- Assumes nothing.
 use mathlib.Core.Path.{_≡_, refl, sym, ap, _∙_}
 use mathlib.Core.List.{List, reverse, reverse-reverse}
@@ -20,7 +20,7 @@ use Rattle.definition.proofs.Chain.{blocks-of-state}
 use Rattle.definition.proofs.Injection.{forms-inject}
 use Rattle.back_definition.specs.Injection.{lessMessage, unring, sumOn, total, unspread, third, ring4, ring5, equationsBack, injectBack}
 use Rattle.back_definition.proofs.Field.{undoes}
-use Rattle.back_definition.proofs.Equations.{lessMessage-back, links, lastOf, ring, ring-back, ring-forth, spread, spread-back, spread-forth, odd-spread, even-spread, odd3, even4, odd5, Rows, ring-rows, unring-rows, spread-rows, unspread-rows, reverse-rows, message-rows}
+use Rattle.back_definition.proofs.Equations.{lessMessage-back, links, lastOf, ring, ring-back, ring-forth, spread, spread-back, spread-forth, odd-spread, even-spread, Rows, ring-rows, unring-rows, spread-rows, unspread-rows, reverse-rows, message-rows}
 
 -- E-1 to E-3 but for the message, over lists; ξ_j of E-3 goes around in the other direction
 unfoldable pub equations : Width → List Block → List Block
@@ -50,9 +50,9 @@ around5 es k = (ring-back 5 ring5 (omega arith) tt tt es (k .0) (k .1), ring-for
 -- the equations at each w, forwards and then backwards
 equations-back : (w : Width) (h : List Block) → Rows (blockCount w) h → equationsBack w (equations w h) ≡ h
 unfolding equations equationsBack blockCount
-equations-back W3 h k = spread-back 3 third (odd-spread 3 odd3) h (k .0) (k .1)
+equations-back W3 h k = spread-back 3 third (odd-spread 1) h (k .0) (k .1)
 equations-back W4 h k =
-    ap (unspread 1) (around4 (spread h) (spread-rows h k) .0) ∙ spread-back 4 1 (even-spread 4 even4) h (k .0) (k .1)
+    ap (unspread 1) (around4 (spread h) (spread-rows h k) .0) ∙ spread-back 4 1 (even-spread 2) h (k .0) (k .1)
 equations-back W5 h k =
     let r : List Block = reverse (spread h) in
     let kr : Rows 5 r = reverse-rows (spread h) (spread-rows h k) in
@@ -61,22 +61,22 @@ equations-back W5 h k =
     ∙ ap (λ (x : List Block). unspread third (reverse (unring ring5 x))) (reverse-reverse (ring r))
     ∙ ap (λ (x : List Block). unspread third (reverse x)) (around5 r kr .0)
     ∙ ap (unspread third) (reverse-reverse (spread h))
-    ∙ spread-back 5 third (odd-spread 5 odd5) h (k .0) (k .1)
+    ∙ spread-back 5 third (odd-spread 2) h (k .0) (k .1)
 
 -- and backwards and then forwards
 equations-forth : (w : Width) (x : List Block) → Rows (blockCount w) x → equations w (equationsBack w x) ≡ x
 unfolding equations equationsBack blockCount
-equations-forth W3 x k = spread-forth 3 third (odd-spread 3 odd3) x (k .0) (k .1)
+equations-forth W3 x k = spread-forth 3 third (odd-spread 1) x (k .0) (k .1)
 equations-forth W4 x k =
     let y : List Block = unring ring4 x in
     let ky : Rows 4 y = unring-rows ring4 x k in
-    ap ring (spread-forth 4 1 (even-spread 4 even4) y (ky .0) (ky .1)) ∙ around4 x k .1
+    ap ring (spread-forth 4 1 (even-spread 2) y (ky .0) (ky .1)) ∙ around4 x k .1
 equations-forth W5 x k =
     let q : List Block = reverse (unring ring5 x) in
     let kq : Rows 5 q = reverse-rows (unring ring5 x) (unring-rows ring5 x k) in
     let p : List Block = reverse (unring ring5 q) in
     let kp : Rows 5 p = reverse-rows (unring ring5 q) (unring-rows ring5 q kq) in
-    ap (λ (e : List Block). ring (reverse (ring (reverse e)))) (spread-forth 5 third (odd-spread 5 odd5) p (kp .0) (kp .1))
+    ap (λ (e : List Block). ring (reverse (ring (reverse e)))) (spread-forth 5 third (odd-spread 2) p (kp .0) (kp .1))
     ∙ ap (λ (e : List Block). ring (reverse (ring e))) (reverse-reverse (unring ring5 q))
     ∙ ap (λ (e : List Block). ring (reverse e)) (around5 q kq .1)
     ∙ ap ring (reverse-reverse (unring ring5 x))

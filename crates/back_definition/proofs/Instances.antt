@@ -13,6 +13,7 @@ use Rattle.definition.specs.Round.{round}
 use Rattle.definition.specs.Start.{start}
 use Rattle.definition.specs.State.{five}
 use Rattle.definition.specs.Buffer.{Every}
+use Rattle.definition.specs.Refusal.{BACK}
 use Rattle.definition.specs.Padding.{rest}
 use Rattle.definition.proofs.Bounds.{start-words}
 use Rattle.definition.proofs.Chain.{length-start}
@@ -29,6 +30,7 @@ use Rattle.back_definition.specs.Round.{permuteBackFrom, roundBack}
 use Rattle.back_definition.specs.Back.{backed, backRefusal, backRefusals, backOutcome}
 use Rattle.back_definition.proofs.Field.{zero-words}
 use Rattle.back_definition.proofs.Round.{round-back, round-forth}
+use Rattle.back_definition.proofs.Outcomes.{back-untouched}
 use Rattle.back_definition.proofs.Records.{back-forward, forward-back, forward-back-none, other-block}
 
 -- a count of 2^64 at code 4, and two blocks
@@ -67,6 +69,14 @@ accepted = refl
 
 pub there-again : feedOutcome (backOutcome (encode sample) sevens .buffer) sevens ≡ done (encode sample)
 there-again = back-forward (encode sample) sample-bytes sevens seven accepted
+
+-- a fresh record has no block to be taken back: back-untouched
+pub refused : backOutcome (encode (started 4)) sevens .number ≡ BACK
+unfolding everything started encode decode blockIn countWords numberAt wellFormed wellKept wellHeld heldOf allZero countOf bytesFed pendingCount outcome recordRefusal backOutcome backRefusals backRefusal
+refused = refl
+
+pub stays : backOutcome (encode (started 4)) sevens .buffer ≡ encode (started 4)
+stays = back-untouched (encode (started 4)) sevens (λ e. absurd (omega (arith, e, refused)))
 
 -- a feed is accepted, and none is pending: forward-back-none, forward-back, other-block
 pub fed-accepted : feedOutcome (encode sample) sevens .number ≡ 0

@@ -1,5 +1,5 @@
--- The message injection undone: Appendix E of the source, its equations solved from the last to the first (document 02, Q-9). The laws that this
--- undoes the matrices of 3.2.1 to 3.2.3 are over any number of blocks; which equations a w has, and the constants, are the source's at each w.
+-- The message injection undone: Appendix E of the source, its equations solved from the last to the first (document 02, Q-9). The laws by which these
+-- equations are undone are over any number of blocks; which equations a w has is the source's, and the constants are what undoes their factors.
 use Prim.Native.Nat.{ℕ}
 use mathlib.Core.List.{List, [], _∷_, map, reverse}
 use lib.ListN.{getD}
@@ -41,7 +41,7 @@ total [] = zeroBlock
 total (b ∷ bs) = sumOn b bs
 
 -- E-1 to E-3: η_j = H_j ^ 2 (H_0 ^ .. ^ H_w-1) undone. The sum of all η_j is 3 (H_0 ^ .. ^ H_w-1) where w is odd, and H_0 ^ .. ^ H_w-1 itself
--- where it is even; its inverse is the constant
+-- where it is even; the inverse of that factor, 3 or 1, is the constant
 unfoldable pub unspread : (inverse : ℕ) → List Block → List Block
 unspread inverse es =
     let t : Block = double (times inverse (total es)) in

@@ -33,9 +33,10 @@ fn refusal(k: Kept, n: usize) -> u32
     refusals::when(pending | odd | under | (n != BLOCK), refusals::BACK)
 }
 
-// A count 32 less, where it is as high; what the low word lacks is borrowed from the high one.
+// A count of at least 32, 32 less: what the low word lacks is borrowed from the high one.
 fn less(high: u64, low: u64) -> Count
-    ensures { λ r. ⌜ (32 ≤ countOf high low → (r .high ≡ (countOf high low - 32) / 2 ^ 64) × (r .low ≡ (countOf high low - 32) % 2 ^ 64)) ⌝ }
+    requires { ⌜ 32 ≤ countOf high low ⌝ }
+    ensures { λ r. ⌜ (r .high ≡ (countOf high low - 32) / 2 ^ 64) × (r .low ≡ (countOf high low - 32) % 2 ^ 64) ⌝ }
 {
     let borrow = (low < 32) as u64;
     Count {

@@ -35,8 +35,8 @@ fn turn_back(t: u64) -> u64
     ((f % 2) << 63) | ((f ^ taken) >> 1)
 }
 
-// B-1: c_L || c_R of block j. It is read from the table by a j that isn't known when this is compiled: five tests of j would let the compiler work
-// out where the generator ends from each start, and store that, of which half is a step constant.
+// B-1: c_L || c_R of block j. Q_j undone is compiled once for all j, so that this read isn't worked out beforehand. Five tests of j would let the
+// compiler work out where the generator ends from each start, and store that, of which half is a step constant; tests/image looks for it.
 fn start(j: usize) -> u64
     requires { ⌜ j < 5 ⌝ }
     ensures { λ r. ⌜ r ≡ initial j ⌝ }

@@ -26,6 +26,9 @@ whole : (x : List ℕ) → length x ≡ 32 → firstBlock x ≡ blockOf x
 unfolding firstBlock blockWhen
 whole x e = rw (le-leb 32 (length x) (omega arith))
 
+less-requires : tie.Need-less-requires
+less-requires c κs = unfold bytesFed in given (c .before .before .before .before .before) .enough
+
 returns : tie.Need-returns
 unfolding backedOf bytesFed
 returns c =
@@ -34,7 +37,7 @@ returns c =
     let w = b .before in
     let start = w .before .before .before in
     let g = given start in
-    let n = c .less .ensures (unfold bytesFed in g .enough) in
+    let n = c .less .ensures in
     let a = start .args in
     λ i.
     record {
@@ -47,4 +50,4 @@ returns c =
     }
 
 pub backed-spec : {M : Type 1} → statement M
-backed-spec = tie.close (tie.spec (λ c κs. tt) (λ c κs. tt) (λ c κs. tt) (λ c κs. tt) returns)
+backed-spec = tie.close (tie.spec (λ c κs. tt) (λ c κs. tt) (λ c κs. tt) less-requires returns)
