@@ -18,7 +18,7 @@ use Rattle.definition.specs.MixWord.{mixWord}
 use Rattle.definition.specs.Constant.{constants}
 use Rattle.definition.specs.Permutation.{tweak, onHalves, onPairs, subCrumbs, mixWords, addConstant, step, steps, permute}
 use Rattle.definition.proofs.Bits.{bit-lt, bits-at, fromBits-lt, fromBits-cong}
-use Rattle.definition.proofs.Bounds.{Words, PairWords, rotl-lt, sub-words, add-words, step-words, constants-words}
+use Rattle.definition.proofs.Bounds.{Words, PairWords, rotl-lt, sub-words, pairs-words, add-words, step-words, constants-words}
 use Rattle.definition.proofs.Cases.{everyBits, at-bits, at-below}
 use Rattle.back_definition.specs.Step.{SBack, wordBy, crumbBy, subCrumbBack, mixWordBack, subCrumbsBack, mixWordsBack, stepBack, stepsBack, tweakBack, permuteBack}
 use Rattle.back_definition.proofs.Words.{xor-back, own-bits, rotl-back, bit-of-bits}
@@ -212,15 +212,8 @@ mixBack-words x y hx hy =
     record { left-word = h0; right-word = xor-lt 32 y4 x0 k4 h0 }
 
 mixedBack-words : (x : Block) → Words x → Words (mixWordsBack x)
-unfolding mixWordsBack onPairs
-mixedBack-words x h =
-    omega (
-      arith,
-      mixBack-words (x .a0) (x .a4) (h .w0) (h .w4),
-      mixBack-words (x .a1) (x .a5) (h .w1) (h .w5),
-      mixBack-words (x .a2) (x .a6) (h .w2) (h .w6),
-      mixBack-words (x .a3) (x .a7) (h .w3) (h .w7),
-    )
+unfolding mixWordsBack
+mixedBack-words = pairs-words mixWordBack mixBack-words
 
 stepsBack-words : (cs : List Pair) (b : Block) → Words b → Words (stepsBack cs b)
 unfolding stepsBack stepBack

@@ -75,16 +75,21 @@ mix-words x0 x4 h0 h4 =
     let l4 : z4 < 2 ^ 32 = xor-lt 32 (rotl 14 y4) y0 (rotl-lt 14 y4 k4) k0 in
     record { left-word = xor-lt 32 (rotl 10 y0) z4 (rotl-lt 10 y0 k0) l4; right-word = rotl-lt 1 z4 l4 }
 
-mixed-words : (x : Block) → Words x → Words (mixWords x)
-unfolding mixWords onPairs
-mixed-words x h =
+-- what gives words from two words gives them from a block's four pairs
+pub pairs-words : (f : (x0 x4 : ℕ) → Pair) → ((x0 x4 : ℕ) → x0 < 2 ^ 32 → x4 < 2 ^ 32 → PairWords (f x0 x4)) → (x : Block) → Words x → Words (onPairs f x)
+unfolding onPairs
+pairs-words f k x h =
     omega (
       arith,
-      mix-words (x .a0) (x .a4) (h .w0) (h .w4),
-      mix-words (x .a1) (x .a5) (h .w1) (h .w5),
-      mix-words (x .a2) (x .a6) (h .w2) (h .w6),
-      mix-words (x .a3) (x .a7) (h .w3) (h .w7),
+      k (x .a0) (x .a4) (h .w0) (h .w4),
+      k (x .a1) (x .a5) (h .w1) (h .w5),
+      k (x .a2) (x .a6) (h .w2) (h .w6),
+      k (x .a3) (x .a7) (h .w3) (h .w7),
     )
+
+mixed-words : (x : Block) → Words x → Words (mixWords x)
+unfolding mixWords
+mixed-words = pairs-words mixWord mix-words
 
 pub add-words : (c : Pair) (y : Block) → PairWords c → Words y → Words (addConstant c y)
 unfolding addConstant
