@@ -1,52 +1,21 @@
--- Dividing blocks by a constant of the field of 3.2: two blocks of words are equal where their elements are, so a constant is undone by another
+-- Dividing blocks by a constant of the field of 3.2: as two blocks of words are equal where their elements are, a constant is undone by another
 -- where the checker finds it so at each of the 256 elements. Words stay words through XOR, doubling and such products.
 -- Assumes nothing.
-use mathlib.Core.Path.{_≡_, refl, sym, ap, ap₂, _∙_}
+use mathlib.Core.Path.{_≡_, ap, ap₂, _∙_}
 use mathlib.Core.Bool.{Bool}
 use Prim.Native.Nat.{ℕ, zero, suc, _/_, _%_, _^_, _<_}
 use native.Mathlib.Nat.{pow-suc}
 use native.Mathlib.Omega.{arith}
 use lib.Bits.{bitXor, xor-lt}
 use lib.Dec.{T, eqb, eqb→eq}
-use lib.ListN.{getD}
 use lib.Pow.{pow-lt}
 use Rattle.definition.specs.declared.Block.{Block}
-use Rattle.definition.specs.Word.{bit}
-use Rattle.definition.specs.Block.{_⊕_, zeroBlock, wordsOf}
+use Rattle.definition.specs.Block.{_⊕_, zeroBlock}
 use Rattle.definition.specs.Field.{double, keep, timesTo, times, element, product}
-use Rattle.definition.proofs.Bits.{bit-lt, fromBits-cong}
 use Rattle.definition.proofs.Bounds.{Words}
 use Rattle.definition.proofs.Cases.{everyBelow, at-below}
+use Rattle.definition.proofs.Elements.{by-elements}
 use Rattle.definition.proofs.Field.{element-lt, times-element, times-one, times-xor, times-twice}
-use Rattle.back_definition.proofs.Words.{own-bits, bit-of-bits}
-
--- a block is its elements at the 32 bit positions
-module _ (a b : Block) (ha : Words a) (hb : Words b) (e : (l : ℕ) → l < 32 → element l a ≡ element l b) where
-  at-place : (c : Block) (k l : ℕ) → k < 8 → bit k (element l c) ≡ bit l (getD (wordsOf c) k 0)
-  unfolding element
-  at-place c k l h = bit-of-bits 8 k (λ k. bit l (getD (wordsOf c) k 0)) (λ k. bit-lt l _) h
-
-  word-same : (k x y : ℕ) → k < 8 → x < 2 ^ 32 → y < 2 ^ 32 → getD (wordsOf a) k 0 ≡ x → getD (wordsOf b) k 0 ≡ y → x ≡ y
-  word-same k x y h hx hy p q =
-      sym (own-bits x hx)
-      ∙ fromBits-cong 32 (λ l. bit l x) (λ l. bit l y)
-      (λ l hl.
-      ap (bit l) (sym p) ∙ sym (at-place a k l h) ∙ ap (bit k) (e l hl) ∙ at-place b k l h ∙ ap (bit l) q)
-      ∙ own-bits y hy
-
-  pub by-elements : a ≡ b
-  by-elements =
-      λ i.
-      record {
-        a0 = word-same 0 _ _ (omega arith) (ha .w0) (hb .w0) (unfold wordsOf in refl) (unfold wordsOf in refl) i;
-        a1 = word-same 1 _ _ (omega arith) (ha .w1) (hb .w1) (unfold wordsOf in refl) (unfold wordsOf in refl) i;
-        a2 = word-same 2 _ _ (omega arith) (ha .w2) (hb .w2) (unfold wordsOf in refl) (unfold wordsOf in refl) i;
-        a3 = word-same 3 _ _ (omega arith) (ha .w3) (hb .w3) (unfold wordsOf in refl) (unfold wordsOf in refl) i;
-        a4 = word-same 4 _ _ (omega arith) (ha .w4) (hb .w4) (unfold wordsOf in refl) (unfold wordsOf in refl) i;
-        a5 = word-same 5 _ _ (omega arith) (ha .w5) (hb .w5) (unfold wordsOf in refl) (unfold wordsOf in refl) i;
-        a6 = word-same 6 _ _ (omega arith) (ha .w6) (hb .w6) (unfold wordsOf in refl) (unfold wordsOf in refl) i;
-        a7 = word-same 7 _ _ (omega arith) (ha .w7) (hb .w7) (unfold wordsOf in refl) (unfold wordsOf in refl) i;
-      }
 
 -- words stay words
 pub zero-words : Words zeroBlock

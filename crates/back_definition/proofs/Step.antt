@@ -17,11 +17,11 @@ use Rattle.definition.specs.SubCrumb.{S, sboxInput, subWord, subCrumb}
 use Rattle.definition.specs.MixWord.{mixWord}
 use Rattle.definition.specs.Constant.{constants}
 use Rattle.definition.specs.Permutation.{tweak, onHalves, onPairs, subCrumbs, mixWords, addConstant, step, steps, permute}
-use Rattle.definition.proofs.Bits.{bit-lt, bits-at, fromBits-lt, fromBits-cong}
+use Rattle.definition.proofs.Bits.{bit-lt, bits-at, bit-of-bits, own-bits, fromBits-lt, fromBits-cong}
 use Rattle.definition.proofs.Bounds.{Words, PairWords, rotl-lt, sub-words, pairs-words, add-words, step-words, constants-words}
 use Rattle.definition.proofs.Cases.{everyBits, at-bits, at-below}
 use Rattle.back_definition.specs.Step.{SBack, wordBy, crumbBy, subCrumbBack, mixWordBack, subCrumbsBack, mixWordsBack, stepBack, stepsBack, tweakBack, permuteBack}
-use Rattle.back_definition.proofs.Words.{xor-back, own-bits, rotl-back, bit-of-bits}
+use Rattle.back_definition.proofs.Words.{xor-back, rotl-back}
 
 -- at one bit: the second table at what the first gives has bit k of the input
 inputOf : List ℕ → ℕ

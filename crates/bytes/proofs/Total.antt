@@ -1,4 +1,4 @@
--- Writing where there is room, and where there is none.
+-- Reading a whole block, and writing where there is room and where there is none.
 -- Assumes nothing.
 use mathlib.Core.Path.{_≡_, ap, _∙_}
 use mathlib.Core.List.{List, [], _++_}
@@ -7,9 +7,15 @@ use native.Mathlib.Decide.{decLe}
 use native.Mathlib.Omega.{arith}
 use borrow.Author.Tests.{le-leb, lt-leb}
 use lib.ListN.{length, length-append}
+use Rattle.definition.specs.Block.{blockOf}
 use Rattle.definition.specs.Buffer.{overwriteAt, overwrite}
 use Rattle.definition.proofs.Buffer.{overwriteAt-more, overwriteAt-none, length-overwriteAt}
-use Rattle.bytes.specs.Total.{writeWhen, writeAt}
+use Rattle.bytes.specs.Total.{blockWhen, firstBlock, writeWhen, writeAt}
+
+-- a slice that has 32 bytes begins with a block
+pub whole-block : (x : List ℕ) → 32 ≤ length x → firstBlock x ≡ blockOf x
+unfolding firstBlock blockWhen
+whole-block x h = rw (le-leb 32 (length x) h)
 
 -- where there is room
 pub write-at : (i : ℕ) (p l : List ℕ) → i + length p ≤ length l → writeAt i p l ≡ overwriteAt i p l

@@ -2,8 +2,9 @@
 -- Assumes nothing.
 use mathlib.Core.Path.{_≡_, refl, sym, ap, ap₂, _∙_}
 use mathlib.Core.List.{List, [], _∷_, map}
+use mathlib.Core.Logic.{⊎-elim}
 use Prim.Native.Nat.{ℕ, zero, suc, _+_, _-_, _*_, _/_, _%_, _^_, _<_, _≤_}
-use native.Mathlib.Nat.{mod-lt, mod-eq-of-lt, zero-lt-suc, mod-one, zero-div, div-eq-of-lt, mul-mod-left, mul-le-mul-right, pow-suc}
+use native.Mathlib.Nat.{mod-lt, mod-eq-of-lt, zero-lt-suc, mod-one, zero-div, div-eq-of-lt, mul-mod-left, mul-le-mul-right, pow-suc, eq-or-lt-of-le, not-suc-le-zero, le-of-suc-le-suc}
 use native.Mathlib.Decide.{decLt}
 use native.Mathlib.Numerals.{one-add}
 use native.Mathlib.Omega.{arith}
@@ -65,6 +66,10 @@ pub from-its-bits : (n a : ℕ) (f : ℕ → ℕ) → a < 2 ^ n → ((l : ℕ) �
 from-its-bits n a f h e =
     sym (mod-eq-of-lt h) ∙ sym (fromBits-bit n a) ∙ fromBits-cong n (λ l. bit l a) f e
 
+-- a word is the one put together from its own bits
+pub own-bits : (a : ℕ) → a < 2 ^ 32 → fromBits 32 (λ l. bit l a) ≡ a
+own-bits a h = fromBits-bit 32 a ∙ mod-eq-of-lt h
+
 -- bit l of ones in l + 1 + j places
 bit-ones : (j l : ℕ) → bit l (2 ^ (j + 1 + l) - 1) ≡ 1
 unfolding bit
@@ -94,6 +99,17 @@ unfolding bit
 bit-mod n l a h =
     let e : n - l - 1 + 1 + l ≡ n = omega arith in
     rw (rw e at (field a (n - l - 1 + 1) l)) (mod-mod-pow (a / 2 ^ l) (n - l - 1) 1)
+
+-- bit l of n bits put together is the l-th
+pub bit-of-bits : (n l : ℕ) (f : ℕ → ℕ) → ((l : ℕ) → f l < 2) → l < n → bit l (fromBits n f) ≡ f l
+unfolding fromBits
+bit-of-bits zero l f h hl = absurd (not-suc-le-zero hl)
+bit-of-bits (suc n) l f h hl =
+    let r : fromBits n f < 2 ^ n = fromBits-lt n f h in
+    ⊎-elim
+    (λ (e : l ≡ n). rw e (unfold bit in rw (high (f n) n r) (mod-eq-of-lt (h n))))
+    (λ (k : l < n). sym (bit-mod n l _ k) ∙ rw (low (f n) n r) (bit-of-bits n l f h k))
+    (eq-or-lt-of-le (le-of-suc-le-suc hl))
 
 bit-shr : (k l a : ℕ) → bit l (a / 2 ^ k) ≡ bit (k + l) a
 unfolding bit

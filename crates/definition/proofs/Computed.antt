@@ -1,6 +1,6 @@
 -- The line `unfolding everything` opens all definitions of Luffa, so that the checker computes them.
 use Rattle.definition.specs.Word.{bit, fromBits, rotl, wordOf, bytesOf, bytesOfAll}
-use Rattle.definition.specs.Block.{_⊕_, xorAll, wordsOf, wordsOfAll, wordAt, blockOf}
+use Rattle.definition.specs.Block.{_⊕_, xorAll, wordsOf, wordsOfAll, blockFrom, wordAt, blockOf}
 use Rattle.definition.specs.Field.{double, keep, timesTo, times, element, timesX, multiple, product, carryless, remainder}
 use Rattle.definition.specs.Injection.{matrix, row, inject}
 use Rattle.definition.specs.SubCrumb.{S, sboxInput, subWord, subCrumb}
@@ -18,5 +18,5 @@ use Rattle.definition.specs.State.{five, blocksIn, stateOf}
 use Rattle.definition.specs.Buffer.{overwriteAt}
 
 unfoldable pub everything : Unit {0}
-unfolding bit fromBits rotl wordOf bytesOf bytesOfAll _⊕_ xorAll wordsOf wordAt blockOf double keep timesTo times element timesX multiple product carryless remainder matrix row inject S sboxInput subWord subCrumb mixWord polynomial g fL tL exchanged constantsFrom initial constants tweak onHalves onPairs subCrumbs mixWords addConstant step steps permute permuteFrom round chain paddedBits byteOf bytesTo bytesIn lowBits bitsOfByte bitsOf wholeBytes bitsIn highBits closingByte padding padded blocksTo blocks blockCount startingVariables start outputs finalRounds final widthAt wordsAt bytesAt limitAt outputOf outputOfBits luffaOutput luffaOfBits digestAfter luffa pick firstOf numbersOf conditionOf known widthRefusal outRefusal five blocksIn stateOf overwriteAt wordsOfAll whenDone
+unfolding bit fromBits rotl wordOf bytesOf bytesOfAll _⊕_ xorAll wordsOf blockFrom wordAt blockOf double keep timesTo times element timesX multiple product carryless remainder matrix row inject S sboxInput subWord subCrumb mixWord polynomial g fL tL exchanged constantsFrom initial constants tweak onHalves onPairs subCrumbs mixWords addConstant step steps permute permuteFrom round chain paddedBits byteOf bytesTo bytesIn lowBits bitsOfByte bitsOf wholeBytes bitsIn highBits closingByte padding padded blocksTo blocks blockCount startingVariables start outputs finalRounds final widthAt wordsAt bytesAt limitAt outputOf outputOfBits luffaOutput luffaOfBits digestAfter luffa pick firstOf numbersOf conditionOf known widthRefusal outRefusal five blocksIn stateOf overwriteAt wordsOfAll whenDone
 everything = tt

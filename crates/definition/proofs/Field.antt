@@ -55,7 +55,7 @@ pub element-lt : (l : ℕ) (b : Block) → element l b < 2 ^ 8
 unfolding element
 element-lt l b = fromBits-lt 8 _ (λ k. bit-lt l _)
 
-element-zero : (l : ℕ) → element l zeroBlock ≡ 0
+pub element-zero : (l : ℕ) → element l zeroBlock ≡ 0
 unfolding element fromBits wordsOf
 element-zero l = rw (bit-zero l)
 

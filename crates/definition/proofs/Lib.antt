@@ -18,6 +18,7 @@ pub mod Refusals
 pub mod Final
 pub mod Output
 pub mod Bounds
+pub mod Elements
 pub mod Determined
 pub mod Computed
 pub mod Vectors

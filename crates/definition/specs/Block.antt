@@ -40,6 +40,20 @@ unfoldable pub wordsOfAll : List Block → List ℕ
 wordsOfAll [] = []
 wordsOfAll (b ∷ bs) = wordsOf b ++ wordsOfAll bs
 
+-- 2.2: the first eight words as a block
+unfoldable pub blockFrom : List ℕ → Block
+blockFrom ws =
+    record {
+      a0 = getD ws 0 0;
+      a1 = getD ws 1 0;
+      a2 = getD ws 2 0;
+      a3 = getD ws 3 0;
+      a4 = getD ws 4 0;
+      a5 = getD ws 5 0;
+      a6 = getD ws 6 0;
+      a7 = getD ws 7 0;
+    }
+
 -- 2.2: word k of a string of bytes, x_4k || x_4k+1 || x_4k+2 || x_4k+3
 unfoldable pub wordAt : List ℕ → ℕ → ℕ
 wordAt x k = wordOf (getD x (4 * k) 0) (getD x (4 * k + 1) 0) (getD x (4 * k + 2) 0) (getD x (4 * k + 3) 0)

@@ -44,7 +44,7 @@ abbrev pub STALE : ℕ
 STALE = 11
 
 -- and document 02's: of longer output, Q-2, of the brine statement, Q-3, of many changes in one save, Q-4, of a planner's own marks, Q-6, of odd
--- bits, Q-7, of stepping back, Q-9, of who depends on a well, Q-10, and of closing up, Q-11
+-- bits, Q-7, of stepping back, Q-9, of who depends on a well, Q-10, of closing up, Q-11, and of columns, Q-12
 abbrev pub WORDS : ℕ
 WORDS = 12
 
@@ -80,6 +80,9 @@ REACH = 22
 
 abbrev pub PLACES : ℕ
 PLACES = 23
+
+abbrev pub COLUMNS : ℕ
+COLUMNS = 24
 
 abbrev pub LIST : ℕ
 LIST = 25

@@ -16,19 +16,16 @@ use Rattle.definition.specs.Block.{blockOf, wordAt, wordsOf, wordsOfAll}
 use Rattle.definition.specs.State.{five}
 use Rattle.definition.specs.Buffer.{overwriteAt}
 use Rattle.definition.specs.Refusal.{pick}
-use Rattle.bytes.specs.Total.{blockWhen, firstBlock, wordWhen, firstWord, writeAt}
+use Rattle.bytes.specs.Total.{firstBlock, wordWhen, firstWord, writeAt}
 use Rattle.hash_definition.specs.Record.{recordLength, countWords, encode, heldOf, withHeld}
 use Rattle.hash_record.specs.Reading.{heldWritten, written}
 use Rattle.definition.proofs.Word.{bytes-of-word, length-bytes}
-use Rattle.bytes.proofs.Total.{write-at, writeAt-more}
+use Rattle.bytes.proofs.Total.{whole-block, write-at, writeAt-more}
 use Rattle.bytes.proofs.Parts.{part-rest}
 
 -- a block and a word read from a part
 pub part-block : (b : List ℕ) (n : ℕ) → n + 32 ≤ length b → firstBlock (take (length b - n) (drop n b)) ≡ blockOf (drop n b)
-unfolding firstBlock blockWhen
-part-block b n h =
-    let e : 32 ≤ length (drop n b) = omega (arith, length-drop n b) in
-    rw (part-rest n b, le-leb 32 (length (drop n b)) e)
+part-block b n h = rw (part-rest n b) (whole-block (drop n b) (omega (arith, length-drop n b)))
 
 pub part-word : (b : List ℕ) (n : ℕ) → n + 4 ≤ length b → firstWord (take (length b - n) (drop n b)) ≡ wordAt (drop n b) 0
 unfolding firstWord wordWhen

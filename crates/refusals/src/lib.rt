@@ -53,6 +53,8 @@ pub const REACH: u32 = 22;
 
 pub const PLACES: u32 = 23;
 
+pub const COLUMNS: u32 = 24;
+
 pub const LIST: u32 = 25;
 
 // A refusal judged: its number where its condition holds, else 0.

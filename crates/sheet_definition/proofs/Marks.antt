@@ -12,7 +12,7 @@ use Rattle.definition.specs.declared.Block.{Block}
 use Rattle.definition.specs.declared.State.{State}
 use Rattle.definition.specs.declared.Width.{Width}
 use Rattle.definition.specs.declared.Width.the-variants.{W3, W4, W5}
-use Rattle.definition.specs.Block.{wordsOf, wordsOfAll}
+use Rattle.definition.specs.Block.{wordsOf, wordsOfAll, blockFrom}
 use Rattle.definition.specs.Round.{chain}
 use Rattle.definition.specs.Padding.{closing, padding, padded, blocksTo, blocks}
 use Rattle.definition.specs.Width.{blockCount, widthAt}
@@ -21,7 +21,7 @@ use Rattle.definition.specs.State.{five, blocksIn, stateOf}
 use Rattle.definition.specs.Buffer.{overwriteAt}
 use Rattle.definition.specs.Luffa.{digestAfter, luffa}
 use Rattle.sheet_definition.specs.Sheet.{recordBytes, groupBytes, markWords, q, N, F, roundsFrom}
-use Rattle.sheet_definition.specs.Marks.{held, markAt, blockFrom, stateFrom, markOf, marksAfter, roundsAfter, worked, stateAfter, TrueMark, TrueMarks}
+use Rattle.sheet_definition.specs.Marks.{held, markAt, stateFrom, markOf, marksAfter, roundsAfter, worked, stateAfter, TrueMark, TrueMarks}
 use Rattle.definition.proofs.Chain.{chain-append, blocks-of-state, length-chain, length-start}
 use Rattle.definition.proofs.Padding.{blocks-append, length-padding}
 use Rattle.definition.proofs.BitStrings.{digest-bytes, luffa-bytes}

@@ -2,7 +2,7 @@
 use mathlib.Core.Path.{_≡_}
 use Prim.Native.Nat.{ℕ, zero, suc, _+_, _-_, _*_, _≤_}
 use mathlib.Core.List.{List, [], _∷_, _++_}
-use lib.ListN.{length, getD, take, drop}
+use lib.ListN.{length, take, drop}
 use Rattle.definition.specs.declared.Block.{Block}
 use Rattle.definition.specs.declared.Width.{Width}
 use Rattle.definition.specs.Round.{chain}
@@ -13,7 +13,7 @@ use Rattle.definition.specs.Final.{finalRounds}
 use Rattle.definition.specs.State.{five, stateOf}
 use Rattle.definition.specs.Luffa.{wordsAt, digestAfter}
 use Rattle.definition.specs.Buffer.{overwriteAt}
-use Rattle.definition.specs.Block.{wordsOfAll}
+use Rattle.definition.specs.Block.{blockFrom, wordsOfAll}
 use Rattle.sheet_definition.specs.Sheet.{World, recordBytes, groupBytes, markWords, q}
 
 -- the bytes of n records
@@ -23,20 +23,6 @@ held n sheet = take (recordBytes * n) sheet
 -- the words of mark m
 unfoldable pub markAt : List ℕ → ℕ → List ℕ
 markAt marks m = take markWords (drop (markWords * m) marks)
-
--- eight words as a block
-unfoldable pub blockFrom : List ℕ → Block
-blockFrom ws =
-    record {
-      a0 = getD ws 0 0;
-      a1 = getD ws 1 0;
-      a2 = getD ws 2 0;
-      a3 = getD ws 3 0;
-      a4 = getD ws 4 0;
-      a5 = getD ws 5 0;
-      a6 = getD ws 6 0;
-      a7 = getD ws 7 0;
-    }
 
 -- the state that a mark holds: its first w blocks; the words of unused blocks are not read
 unfoldable pub stateFrom : Width → List ℕ → List Block

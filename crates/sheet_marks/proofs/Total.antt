@@ -11,12 +11,12 @@ use lib.ListN.{length, drop, replicate, length-replicate, replicate-append-repli
 use Rattle.definition.specs.declared.State.{State}
 use Rattle.definition.specs.declared.Width.{Width}
 use Rattle.definition.specs.declared.Width.the-variants.{W3, W4, W5}
-use Rattle.definition.specs.Block.{wordsOf, wordsOfAll}
+use Rattle.definition.specs.Block.{wordsOf, wordsOfAll, blockFrom}
 use Rattle.definition.specs.Width.{blockCount}
 use Rattle.definition.specs.State.{five, stateOf}
 use Rattle.definition.specs.Buffer.{overwriteAt}
 use Rattle.sheet_definition.specs.Sheet.{markWords, q}
-use Rattle.sheet_definition.specs.Marks.{blockFrom, markAt, stateFrom}
+use Rattle.sheet_definition.specs.Marks.{markAt, stateFrom}
 use Rattle.sheet_definition.specs.SheetCalls.{pastLast}
 use Rattle.bytes.specs.Total.{writeAt}
 use Rattle.bytes.proofs.Total.{write-at, write-not, write-none, writeAt-more}

@@ -1,14 +1,9 @@
 -- `hash_back::backed` meets its contract: past the refusals the count is at least 32 and there are 32 bytes.
 -- Assumes nothing.
-use mathlib.Core.Path.{_≡_}
-use mathlib.Core.List.{List}
-use Prim.Native.Nat.{ℕ}
 use native.Mathlib.Omega.{arith}
-use borrow.Author.Tests.{le-leb}
 use denote.Ref.{now}
 use lib.ListN.{length}
-use Rattle.definition.specs.Block.{blockOf}
-use Rattle.bytes.specs.Total.{blockWhen, firstBlock}
+use Rattle.bytes.proofs.Total.{whole-block}
 use Rattle.hash_definition.specs.Record.{bytesFed, wellKept}
 use Rattle.hash_definition.specs.Lent.{keptRefusal}
 use Rattle.back_definition.specs.Back.{backed as backedOf, lentBackRefusals}
@@ -20,11 +15,6 @@ use Rattle.hash_back.proofs.backed.Tie as tie
 given : (c : tie.Start) → Backs (c .args .k) (length (now (c .args .block)))
 unfolding lentBackRefusals keptRefusal
 given c = backs (wellKept (c .args .k)) (c .args .k) (length (now (c .args .block))) (c .pre) .1
-
--- 32 bytes are a whole block
-whole : (x : List ℕ) → length x ≡ 32 → firstBlock x ≡ blockOf x
-unfolding firstBlock blockWhen
-whole x e = rw (le-leb 32 (length x) (omega arith))
 
 less-requires : tie.Need-less-requires
 less-requires c κs = unfold bytesFed in given (c .before .before .before .before .before) .enough
@@ -43,7 +33,7 @@ returns c =
     record {
       code = a .k .code;
       odd = a .k .odd;
-      state = (rw (w .width .ensures, b .block .ensures, whole (now (a .block)) (g .whole)) at (r .round .ensures)) i;
+      state = (rw (w .width .ensures, b .block .ensures, whole-block (now (a .block)) (omega (arith, g .whole))) at (r .round .ensures)) i;
       pending = a .k .pending;
       high = n .0 i;
       low = n .1 i;

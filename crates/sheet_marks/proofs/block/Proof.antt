@@ -2,7 +2,7 @@
 -- Assumes nothing.
 use borrow.Author.Needs.{needs}
 use borrow.Author.Tests.{not-true, not-false}
-use Rattle.sheet_definition.specs.Marks.{blockFrom}
+use Rattle.definition.specs.Block.{blockFrom}
 use Rattle.sheet_marks.specs.Total.{whenUsed}
 use Rattle.sheet_marks.proofs.block.Statement.{statement}
 use Rattle.sheet_marks.proofs.block.Tie as tie
