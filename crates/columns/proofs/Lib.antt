@@ -1,0 +1,2 @@
+-- Laws of the code.
+pub mod Parts

@@ -1,0 +1,54 @@
+-- `columns::to_words` meets its contract: past its refusals the words of the dump are written.
+-- Assumes nothing.
+use mathlib.Core.Path.{_≡_, ap, _∙_}
+use native.Mathlib.Omega.{arith}
+use denote.Ref.{now}
+use borrow.Author.Needs.{needs}
+use lib.ListN.{length}
+use Rattle.definition.specs.Refusal.{firstOf}
+use Rattle.definition.specs.Width.{widthAt}
+use Rattle.definition.proofs.Chain.{count-le}
+use Rattle.hash_definition.specs.Said.{done}
+use Rattle.hash_definition.proofs.Refused.{refused, accepted}
+use Rattle.columns_definition.specs.Columns.{blocksAt, wordsRefusals, toWordsOutcome}
+use Rattle.columns_definition.proofs.Calls.{due}
+use Rattle.columns.proofs.to_words.Statement.{statement}
+use Rattle.columns.proofs.to_words.Tie as tie
+
+abbrev from : tie.After-refusal → tie.Start
+from c = c .before .before .before .before .before
+
+count : (c : tie.After-refusal) → c .before .count .result ≡ blocksAt (from c .args .code)
+unfolding blocksAt
+count c = rw (c .before .before .width .ensures) at (c .before .count .ensures)
+
+judged : (c : tie.After-refusal)
+    → c .refusal .result ≡ firstOf (wordsRefusals (from c .args .code) (length (now (from c .args .dump))) (length (now (from c .args .words))))
+unfolding wordsRefusals
+judged c = rw (count c) at (c .refusal .ensures)
+
+returns : tie.Need-returns
+unfolding toWordsOutcome
+returns c = refused _ (judged (c .before)) _ _ (c .if1 .taken)
+
+put-blocks-requires : tie.Need-put-blocks-requires
+unfolding wordsRefusals blocksAt
+put-blocks-requires c κs =
+    let r = c .before .before in
+    let a = from r .args in
+    let d = due (a .code) _ _ _ _ (rw (judged r) at (c .before .if1 .left)) in
+    rw (count r) (count-le (widthAt (a .code)), d .1, d .2)
+
+returns-2 : tie.Need-returns-2
+unfolding toWordsOutcome
+returns-2 c =
+    let e = c .before .before .before .before in
+    let r = e .before in
+    ap done (rw (count r) at (c .before .before .put-blocks .ensures)) ∙ accepted _ (judged r) _ _ (e .if1 .left)
+
+mul-refusal : tie.Need-mul-refusal
+mul-refusal c = let n = c in rw (n .count .ensures) (omega (arith, count-le (n .before .width .result)))
+
+pub to-words-spec : {M : Type 1} → statement M
+to-words-spec =
+    tie.close (tie.spec (λ c κs. tt) (λ c κs. tt) mul-refusal (λ c κs. tt) returns put-blocks-requires (λ c. search needs) returns-2)
