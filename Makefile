@@ -8,6 +8,7 @@ SONAME := libluffa.so.2
 
 # rt compiles for x86-64 alone: on another processor the compiler that links is one for x86-64.
 GCC := $(if $(filter x86_64,$(shell uname -m)),gcc,x86_64-linux-gnu-gcc)
+AR := $(GCC:gcc=ar)
 
 # The tests name others here, so as to leave these alone.
 LUFFA_ARCHIVE ?= target/staticlib/libluffa.a
@@ -20,11 +21,14 @@ all: $(LUFFA_ARCHIVE) $(LUFFA_LIB)/libluffa.so $(LUFFASUM)
 
 # rt knows by itself what has to be proved again; the sources say when to ask it. rt check proves
 # crates that don't need each other side by side and builds the program too; rt staticlib would take
-# them one after the other, and here finds them proved.
+# them one after the other, and here finds them proved. Each static library is one object: the calls on
+# columns join the archive as a second one, which is linked only where they are called.
 SOURCES := crates.txt $(shell find crates -name '*.rt')
 target/staticlib/libluffa.a: $(SOURCES)
-	rt check luffa luffasum
+	rt check luffa luffa_columns luffasum
 	rt staticlib luffa
+	rt staticlib luffa_columns
+	cd $(@D) && $(AR) x libluffa_columns.a && $(AR) rs $(@F) luffa_columns.o && rm luffa_columns.o
 target/bin/luffasum: $(SOURCES)
 	rt check luffasum
 	touch -c $@
