@@ -3,7 +3,7 @@
 # compiling are rt's; here is only linking and copying.
 
 PREFIX ?= /usr/local
-VERSION := 2.7.0
+VERSION := 2.8.0
 SONAME := libluffa.so.2
 
 # rt compiles for x86-64 alone: on another processor the compiler that links is one for x86-64.

@@ -1,8 +1,8 @@
 /*
  * luffa.h: Luffa digests (Luffa specification 2.0.1) of 224, 256, 384 and 512 bits, in one call or
  * piece by piece, of messages that may stop inside a byte, also back over a block that was fed, with longer
- * output where it is wanted, a sheet of records that is saved under its digest, and what its records mean:
- * whether they are sound, what they send, and who depends on whom.
+ * output where it is wanted, a controller's state by columns, a sheet of records that is saved under its
+ * digest, and what its records mean: whether they are sound, what they send, and who depends on whom.
  *
  * Every call answers a number: LUFFA_DONE, or the first refusal that holds, in the order listed at
  * the call. A refused call has altered nothing, so look at the answer before you use a buffer. The
@@ -11,7 +11,7 @@
  * The caller's duties, which no call can judge:
  *   - Each pointer is valid for the length that follows it: for reading, and for writing too unless
  *     it points to const. Where the length is 0 the pointer may be null. Lengths are in bytes, those
- *     of marks, own, places, counts, intake and spare in elements, whatever size these have.
+ *     of words, marks, own, places, counts, intake and spare in elements, whatever size these have.
  *   - A buffer lent for writing overlaps no other buffer of the same call. So a claim isn't lent as
  *     the output buffer too.
  *   - Until the call returns, nobody else writes to a lent buffer or reads one lent for writing.
@@ -75,6 +75,8 @@ extern "C" {
 #define LUFFA_UNSOUND 20 /* luffa_plan_check faults the sheet */
 #define LUFFA_WELL 21    /* no record of the sheet has this number */
 #define LUFFA_REACH 22   /* fewer bytes to mark than the sheet has records */
+/* 24 is given by the calls on columns. */
+#define LUFFA_COLUMNS 24 /* a dump, the words or the message block have another length */
 
 /*
  * The digest of a whole message, in the first bytes of out. The bytes after it stay as they were.
@@ -154,7 +156,7 @@ struct luffa_output_answer luffa_output_bits(size_t code, size_t words, const ui
  */
 #define LUFFA_RECORD_BYTES 216
 
-/* A block of the message, which luffa_back takes back as a whole. */
+/* A block of the message, which luffa_back takes back as a whole, and its dump by columns. */
 #define LUFFA_BLOCK_BYTES 32
 
 /*
@@ -266,6 +268,58 @@ uint32_t luffa_hash_finish(const struct luffa_hash *hash, uint8_t *out, size_t o
  */
 struct luffa_output_answer luffa_hash_finish_output(const struct luffa_hash *hash, size_t words, uint8_t *out,
                                                     size_t out_len);
+
+/*
+ * A state by columns, as a controller dumps it. A state is w blocks of eight words of 32 bits, w being 3, 3,
+ * 4 and 5 at codes 1 to 4: word 8j + k of the 8w is word k of block j. They are the words of luffa_hash, or of
+ * a mark, and those that a record has from byte 8 on.
+ *
+ * Its dump is 32w bytes: for each position l from 0 to 31, which counts the bits of a word from the lowest, one
+ * byte for each block. Byte w * l + j is for block j, and its bit k, counted from the lowest too, is bit l of
+ * word k. So where byte b of two dumps differs in bit k, it is in word k of block b % w, at position b / w.
+ *
+ *   code           1     2     3     4
+ *   w, blocks      3     3     4     5
+ *   8w, words     24    24    32    40
+ *   32w, bytes    96    96   128   160
+ *
+ * A message block of 32 bytes is dumped in the same way, as one block of eight words, each high byte first: bit k
+ * of byte l of the 32 is bit l of the word that bytes 4k to 4k + 3 of the message make.
+ *
+ * Any 32w bytes are the dump of one state, and any 32 that of one message block: there and back nothing is lost.
+ * Dumps, words and message block have just these lengths; a longer buffer is refused like a shorter one.
+ */
+
+/*
+ * The dump of a state. words_len counts words; the words stay as they were.
+ *   1 LUFFA_WIDTH    code isn't 1 to 4
+ *  24 LUFFA_COLUMNS  words_len isn't 8w, or dump_len isn't 32w
+ */
+uint32_t luffa_columns_from_words(size_t code, const uint32_t *words, size_t words_len, uint8_t *dump,
+                                  size_t dump_len);
+
+/*
+ * The state of a dump, the other way round: words_len counts words, and the dump stays as it was.
+ *   1 LUFFA_WIDTH    code isn't 1 to 4
+ *  24 LUFFA_COLUMNS  dump_len isn't 32w, or words_len isn't 8w
+ */
+uint32_t luffa_words_from_columns(size_t code, const uint8_t *dump, size_t dump_len, uint32_t *words,
+                                  size_t words_len);
+
+/*
+ * The dump of a message block, the same at every code. The block stays as it was.
+ *  24 LUFFA_COLUMNS  block_len or dump_len isn't LUFFA_BLOCK_BYTES
+ */
+uint32_t luffa_columns_from_message(const uint8_t *block, size_t block_len, uint8_t *dump, size_t dump_len);
+
+/*
+ * Injects a message block into a state (section 3.2 of the specification), as a round does before it permutes the
+ * blocks, and all by columns: the state's dump becomes, where it stands, that of the state with the block injected.
+ * message is a dump too, the one that luffa_columns_from_message gives, and stays as it was.
+ *   1 LUFFA_WIDTH    code isn't 1 to 4
+ *  24 LUFFA_COLUMNS  dump_len isn't 32w, or message_len isn't LUFFA_BLOCK_BYTES
+ */
+uint32_t luffa_columns_inject(size_t code, uint8_t *dump, size_t dump_len, const uint8_t *message, size_t message_len);
 
 /*
  * A sheet is n records of 40 bytes, one after the other, n from 0 to LUFFA_SHEET_MOST. Its digest is
