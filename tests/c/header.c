@@ -16,7 +16,7 @@ HOLDS(LUFFA_DONE == 0 && LUFFA_WIDTH == 1 && LUFFA_OUT == 2 && LUFFA_RECORD == 3
 HOLDS(LUFFA_SHEET == 5 && LUFFA_MARKS == 6 && LUFFA_PLACE == 7 && LUFFA_FULL == 8 && LUFFA_SIZE == 9);
 HOLDS(LUFFA_CLAIM == 10 && LUFFA_STALE == 11 && LUFFA_BATCH == 13 && LUFFA_LIST == 25 && LUFFA_BATCH_MOST == 64);
 HOLDS(LUFFA_ODD == 17 && LUFFA_BACK == 18 && LUFFA_WORDS == 12 && LUFFA_WORDS_MOST == 64);
-HOLDS(LUFFA_SET == 14 && LUFFA_CHANGES_MOST == 64 && LUFFA_PLACES == 23);
+HOLDS(LUFFA_SET == 14 && LUFFA_CHANGES_MOST == 64 && LUFFA_PLACES == 23 && LUFFA_COLUMNS == 24);
 HOLDS(LUFFA_OWN == 15 && LUFFA_STALE_TAIL == 16 && LUFFA_WHERE_SAME == 0 && LUFFA_WHERE_GROUP == 1);
 HOLDS(LUFFA_HOPS == 19 && LUFFA_UNSOUND == 20 && LUFFA_WELL == 21 && LUFFA_REACH == 22 && LUFFA_HOPS_MOST == 3);
 HOLDS(LUFFA_SHEET_MOST == 1024 && LUFFA_SHEET_RECORD_BYTES == 40 && LUFFA_MARK_WORDS == 40);
@@ -71,6 +71,13 @@ static words (*const finish_output)(const uint8_t *, size_t, size_t, uint8_t *, 
 static words (*const hash_finish_output)(const struct luffa_hash *, size_t, uint8_t *,
                                          size_t) = luffa_hash_finish_output;
 
+static uint32_t (*const columns_from_words)(size_t, const uint32_t *, size_t, uint8_t *,
+                                            size_t) = luffa_columns_from_words;
+static uint32_t (*const words_from_columns)(size_t, const uint8_t *, size_t, uint32_t *,
+                                            size_t) = luffa_words_from_columns;
+static uint32_t (*const columns_from_message)(const uint8_t *, size_t, uint8_t *, size_t) = luffa_columns_from_message;
+static uint32_t (*const columns_inject)(size_t, uint8_t *, size_t, const uint8_t *, size_t) = luffa_columns_inject;
+
 typedef struct luffa_sheet_answer answer;
 static answer (*const build)(size_t, const uint8_t *, size_t, size_t, uint32_t *, size_t, uint8_t *,
                              size_t) = luffa_sheet_build;
@@ -105,6 +112,7 @@ int main(void)
 {
     uint8_t record[LUFFA_RECORD_BYTES], out[LUFFA_512_BYTES], claim[LUFFA_512_BYTES];
     uint8_t sheet[LUFFA_SHEET_RECORD_BYTES] = {0}, line[LUFFA_SHEET_RECORD_BYTES] = {1};
+    uint8_t dump[160], message[LUFFA_BLOCK_BYTES];
     uint32_t marks[LUFFA_MARKS_FOR(1)], own[LUFFA_MARKS_FOR(0)];
     struct luffa_hash hash;
     size_t counts[] = {0, 1};
@@ -126,6 +134,10 @@ int main(void)
            output_bits(LUFFA_224, 1, line, sizeof line, 7, out, sizeof out).rounds != 1 ||
            finish_output(record, sizeof record, LUFFA_WORDS_MOST, out, sizeof out).number != LUFFA_OUT ||
            hash_finish_output(&hash, LUFFA_WORDS_MOST + 1, out, sizeof out).number != LUFFA_WORDS ||
+           columns_from_words(LUFFA_512, hash.state, 40, dump, sizeof dump) != LUFFA_DONE ||
+           columns_from_message(record, LUFFA_BLOCK_BYTES, message, sizeof message) != LUFFA_DONE ||
+           columns_inject(LUFFA_512, dump, sizeof dump, message, sizeof message) != LUFFA_DONE ||
+           words_from_columns(LUFFA_512, dump, sizeof dump, hash.state, 39) != LUFFA_COLUMNS ||
            build(LUFFA_512, NULL, 0, 0, marks, LUFFA_MARKS_FOR(0), claim, sizeof claim).rounds != 3 ||
            append(LUFFA_512, sheet, sizeof sheet, 0, marks, LUFFA_MARKS_FOR(0), line, sizeof line, claim, sizeof claim,
                   out, sizeof out).count != 1 ||

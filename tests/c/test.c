@@ -143,6 +143,27 @@ static void protect(void *from, size_t n, int protection)
     check(mprotect((uint8_t *)from - before, before + n, protection) == 0, "no protection");
 }
 
+/* In one call of 256, as valgrind takes its time over pages, what is only read can't be written, nor can the rest where
+   the call is refused. */
+static int sealed;
+
+static void seal(const struct lent *read, const struct lent *written, uint32_t want)
+{
+    sealed = any_byte() == 0;
+    if (sealed)
+        protect(read->room, read->size, PROT_READ);
+    if (sealed && want != LUFFA_DONE)
+        protect(written->room, written->size, PROT_READ);
+}
+
+static void unseal(const struct lent *read, const struct lent *written)
+{
+    if (sealed) {
+        protect(read->room, read->size, PROT_READ | PROT_WRITE);
+        protect(written->room, written->size, PROT_READ | PROT_WRITE);
+    }
+}
+
 /* Whether nothing changed but, perhaps, the first `written` bytes. */
 static int kept(const struct lent *l, size_t written)
 {
@@ -407,17 +428,10 @@ void back_call(uint32_t want, uint8_t *record, size_t record_len, const uint8_t 
 {
     static struct lent r, b;
     uint8_t *lent = lend(&r, record, record_len), *in = lend(&b, block, block_len);
-    int sealed = any_byte() == 0;
 
-    if (sealed)
-        protect(b.room, b.size, PROT_READ);
-    if (sealed && want != LUFFA_DONE)
-        protect(r.room, r.size, PROT_READ);
+    seal(&b, &r, want);
     uint32_t got = luffa_back(lent, record_len, in, block_len);
-    if (sealed) {
-        protect(b.room, b.size, PROT_READ | PROT_WRITE);
-        protect(r.room, r.size, PROT_READ | PROT_WRITE);
-    }
+    unseal(&b, &r);
     check(answered(got, want, &r), "back over %zu bytes from a record of %zu: answered %u, wanted %u", block_len,
           record_len, got, want);
     check(kept(&r, want == LUFFA_DONE ? LUFFA_RECORD_BYTES : 0) && kept(&b, 0),
@@ -595,6 +609,62 @@ void by_hand(size_t code, const uint8_t *message, size_t bits, size_t words, uin
     start_call(LUFFA_DONE, code, sizeof record, record);
     feed_call(LUFFA_DONE, record, sizeof record, padded, 32 * (bits / 256 + 1));
     blank_rounds(record, words, output);
+}
+
+/* ---- States by columns. */
+
+/* What a call on columns only reads, and what it writes. */
+static struct lent in_read, in_written;
+
+/* Judges the answer of such a call at a code, and what it left; `result` gets what was written. */
+static void columned(const char *call, uint32_t got, uint32_t want, size_t code, void *result)
+{
+    const struct lent *r = &in_read, *o = &in_written;
+
+    unseal(r, o);
+    check(got == want, "%s at code %zu, %zu bytes read and %zu written: answered %u, wanted %u", call, code, r->n, o->n,
+          got, want);
+    check(kept(r, 0) && kept(o, want == LUFFA_DONE ? o->n : 0),
+          "%s at code %zu, %zu bytes read and %zu written, answer %u: wrote elsewhere", call, code, r->n, o->n, got);
+    if (want == LUFFA_DONE)
+        memcpy(result, o->bytes, o->n);
+}
+
+void columns_from_words_call(uint32_t want, size_t code, const uint32_t *words, size_t words_len, size_t dump_len,
+                             uint8_t *dump)
+{
+    uint32_t *in = lend_words(&in_read, words, words_len, 0);
+    uint8_t *out = lend(&in_written, NULL, dump_len);
+
+    seal(&in_read, &in_written, want);
+    columned("columns from words", luffa_columns_from_words(code, in, words_len, out, dump_len), want, code, dump);
+}
+
+void words_from_columns_call(uint32_t want, size_t code, const uint8_t *dump, size_t dump_len, size_t words_len,
+                             uint32_t *words)
+{
+    uint8_t *in = lend(&in_read, dump, dump_len);
+    uint32_t *out = lend_words(&in_written, NULL, words_len, 0);
+
+    seal(&in_read, &in_written, want);
+    columned("words from columns", luffa_words_from_columns(code, in, dump_len, out, words_len), want, code, words);
+}
+
+void columns_from_message_call(uint32_t want, const uint8_t *block, size_t block_len, size_t dump_len, uint8_t *dump)
+{
+    uint8_t *in = lend(&in_read, block, block_len), *out = lend(&in_written, NULL, dump_len);
+
+    seal(&in_read, &in_written, want);
+    columned("columns from a message", luffa_columns_from_message(in, block_len, out, dump_len), want, 0, dump);
+}
+
+void columns_inject_call(uint32_t want, size_t code, uint8_t *dump, size_t dump_len, const uint8_t *message,
+                         size_t message_len)
+{
+    uint8_t *in = lend(&in_read, message, message_len), *out = lend(&in_written, dump, dump_len);
+
+    seal(&in_read, &in_written, want);
+    columned("injection", luffa_columns_inject(code, out, dump_len, in, message_len), want, code, dump);
 }
 
 /* ---- Sheets. */

@@ -106,6 +106,18 @@ void blank_rounds(uint8_t *record, size_t words, uint8_t *output);
 /* Its 3.1 by hand too, of a message of less than 96 bytes: the bits, a 1 and zeros are fed as whole blocks. */
 void by_hand(size_t code, const uint8_t *message, size_t bits, size_t words, uint8_t *output);
 
+/* ---- States by columns. */
+
+/* The calls on columns. Where done, what was written is got in `dump` or `words`. In one call of 256 what is only read
+   can't be written, nor can anything where the call is refused. */
+void columns_from_words_call(uint32_t want, size_t code, const uint32_t *words, size_t words_len, size_t dump_len,
+                             uint8_t *dump);
+void words_from_columns_call(uint32_t want, size_t code, const uint8_t *dump, size_t dump_len, size_t words_len,
+                             uint32_t *words);
+void columns_from_message_call(uint32_t want, const uint8_t *block, size_t block_len, size_t dump_len, uint8_t *dump);
+void columns_inject_call(uint32_t want, size_t code, uint8_t *dump, size_t dump_len, const uint8_t *message,
+                         size_t message_len);
+
 /* ---- Sheets. */
 
 enum call { BUILD, CHANGE, APPEND, DROP, BATCH, CLOSE_UP, CHANGE_OWN, APPEND_OWN, DROP_OWN };

@@ -371,6 +371,38 @@ static void backs(uint8_t *mapped, size_t code)
     memset(mapped, 0, sizeof record);
 }
 
+/* A dump of 2^32 bytes more than a state's isn't one, nor are so many words or bytes more a state or a message block;
+   and a code of 2^32 more is none, whatever it is given. */
+static void columns(uint8_t *mapped, uint32_t *vast, size_t code)
+{
+    size_t bytes = state_bytes[code], n = bytes / 4;
+    uint8_t dump[160], copy[160];
+    uint32_t words[40], copied[40];
+
+    fill(dump, sizeof dump);
+    fill((uint8_t *)words, sizeof words);
+    memcpy(copy, dump, sizeof copy);
+    memcpy(copied, words, sizeof copied);
+    check(luffa_columns_from_words(code, vast, WIDE + n, dump, bytes) == LUFFA_COLUMNS &&
+              luffa_columns_from_words(code, words, n, mapped, WIDE + bytes) == LUFFA_COLUMNS &&
+              luffa_columns_from_words(WIDE + code, words, n, dump, bytes) == LUFFA_WIDTH,
+          "columns from words with a wide number at code %zu", code);
+    check(luffa_words_from_columns(code, mapped, WIDE + bytes, words, n) == LUFFA_COLUMNS &&
+              luffa_words_from_columns(code, dump, bytes, vast, WIDE + n) == LUFFA_COLUMNS &&
+              luffa_words_from_columns(WIDE + code, dump, bytes, words, n) == LUFFA_WIDTH,
+          "words from columns with a wide number at code %zu", code);
+    check(luffa_columns_from_message(mapped, WIDE + BLOCK, dump, BLOCK) == LUFFA_COLUMNS &&
+              luffa_columns_from_message(dump, BLOCK, mapped, WIDE + BLOCK) == LUFFA_COLUMNS,
+          "columns from a message with a wide length");
+    check(luffa_columns_inject(code, mapped, WIDE + bytes, dump, BLOCK) == LUFFA_COLUMNS &&
+              luffa_columns_inject(code, dump, bytes, mapped, WIDE + BLOCK) == LUFFA_COLUMNS &&
+              luffa_columns_inject(WIDE + code, dump, bytes, mapped, BLOCK) == LUFFA_WIDTH,
+          "injection with a wide number at code %zu", code);
+    check(memcmp(dump, copy, sizeof copy) == 0 && memcmp(words, copied, sizeof copied) == 0 && holds(mapped, dump, 0) &&
+              holds((uint8_t *)vast, dump, 0),
+          "columns at code %zu refused, and something written", code);
+}
+
 int main(void)
 {
     uint8_t record[LUFFA_RECORD_BYTES], digest[LUFFA_512_BYTES];
@@ -421,6 +453,7 @@ int main(void)
         }
 
         outputs(mapped, (uint8_t *)marks, code);
+        columns(mapped, marks, code);
         sheets(mapped, marks, out, code);
     }
     return 0;
