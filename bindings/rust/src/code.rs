@@ -64,6 +64,40 @@ impl Code {
         }
     }
 
+    /// The blocks of a state at this code, eight words of 32 bits each: w in the specification.
+    ///
+    /// ```
+    /// let blocks = luffa::Code::ALL.map(|code| code.blocks());
+    /// assert_eq!(blocks, [3, 3, 4, 5]);
+    /// ```
+    pub const fn blocks(self) -> usize {
+        match self {
+            Code::Luffa224 | Code::Luffa256 => 3,
+            Code::Luffa384 => 4,
+            Code::Luffa512 => 5,
+        }
+    }
+
+    /// The words of a state at this code.
+    ///
+    /// ```
+    /// let words = luffa::Code::ALL.map(|code| code.state_words());
+    /// assert_eq!(words, [24, 24, 32, 40]);
+    /// ```
+    pub const fn state_words(self) -> usize {
+        8 * self.blocks()
+    }
+
+    /// The bytes of a state's dump by [`columns`](crate::columns) at this code.
+    ///
+    /// ```
+    /// let bytes = luffa::Code::ALL.map(|code| code.dump_bytes());
+    /// assert_eq!(bytes, [96, 96, 128, 160]);
+    /// ```
+    pub const fn dump_bytes(self) -> usize {
+        32 * self.blocks()
+    }
+
     /// The most bits that a message may have at this code: fewer than 2^64 at 224 and 256 bits, fewer
     /// than 2^128 at 384 and 512.
     ///

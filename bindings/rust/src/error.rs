@@ -103,6 +103,9 @@ pub enum Error {
     /// 23: a list has fewer places than the sheet has records.
     /// [`Sheet::close_up_into`](crate::Sheet::close_up_into) alone gives it.
     Places,
+    /// 24: a dump or the words of a state have another length than they have at the code.
+    /// [`columns`](crate::columns) alone gives it; a message dump that isn't 32 bytes is never met.
+    Columns,
     /// 25: a list has fewer places than the batch has records.
     /// [`plan::brine_into`](crate::plan::brine_into) alone gives it.
     List,
@@ -135,6 +138,7 @@ impl Error {
             Error::Well => 21,
             Error::Reach => 22,
             Error::Places => 23,
+            Error::Columns => 24,
             Error::List => 25,
         }
     }
@@ -221,6 +225,7 @@ impl Error {
             Error::Well,
             Error::Reach,
             Error::Places,
+            Error::Columns,
             Error::List,
         ];
         match all.into_iter().find(|e| u64::from(e.number()) == number) {
@@ -264,6 +269,7 @@ impl fmt::Display for Error {
             Error::Well => "no well of the sheet has this number",
             Error::Reach => "there are fewer bytes than the sheet has records",
             Error::Places => "the list has fewer places than the sheet has records",
+            Error::Columns => "a dump, its words or the message block have another length",
             Error::List => "a list has fewer places than the batch has records",
         })
     }

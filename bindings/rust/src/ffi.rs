@@ -118,6 +118,33 @@ unsafe extern "C" {
         out: *mut u8,
         out_len: usize,
     ) -> OutputAnswer;
+    fn luffa_columns_from_words(
+        code: usize,
+        words: *const u32,
+        words_len: usize,
+        dump: *mut u8,
+        dump_len: usize,
+    ) -> u32;
+    fn luffa_words_from_columns(
+        code: usize,
+        dump: *const u8,
+        dump_len: usize,
+        words: *mut u32,
+        words_len: usize,
+    ) -> u32;
+    fn luffa_columns_from_message(
+        block: *const u8,
+        block_len: usize,
+        dump: *mut u8,
+        dump_len: usize,
+    ) -> u32;
+    fn luffa_columns_inject(
+        code: usize,
+        dump: *mut u8,
+        dump_len: usize,
+        message: *const u8,
+        message_len: usize,
+    ) -> u32;
     fn luffa_sheet_build(
         code: usize,
         sheet: *const u8,
@@ -399,6 +426,39 @@ pub fn finish_output(record: &[u8], words: usize, out: &mut [u8]) -> OutputAnswe
             out.len(),
         )
     }
+}
+
+pub fn columns_from_words(code: usize, words: &[u32], dump: &mut [u8]) -> Result<(), Error> {
+    let (words_len, dump_len) = (words.len(), dump.len());
+    let (words, dump) = (words.as_ptr(), dump.as_mut_ptr());
+    // SAFETY: `words` are read and `dump` is written within their lengths, that of words in elements; they
+    // are distinct borrows.
+    let number = unsafe { luffa_columns_from_words(code, words, words_len, dump, dump_len) };
+    Error::judge(number.into(), 0)
+}
+
+pub fn words_from_columns(code: usize, dump: &[u8], words: &mut [u32]) -> Result<(), Error> {
+    let (dump_len, words_len) = (dump.len(), words.len());
+    let (dump, words) = (dump.as_ptr(), words.as_mut_ptr());
+    // SAFETY: as in `columns_from_words`, the other one read.
+    let number = unsafe { luffa_words_from_columns(code, dump, dump_len, words, words_len) };
+    Error::judge(number.into(), 0)
+}
+
+pub fn columns_from_message(block: &[u8], dump: &mut [u8]) -> Result<(), Error> {
+    let (block_len, dump_len) = (block.len(), dump.len());
+    let (block, dump) = (block.as_ptr(), dump.as_mut_ptr());
+    // SAFETY: `block` is read and `dump` is written within their lengths; they are distinct borrows.
+    let number = unsafe { luffa_columns_from_message(block, block_len, dump, dump_len) };
+    Error::judge(number.into(), 0)
+}
+
+pub fn columns_inject(code: usize, dump: &mut [u8], message: &[u8]) -> Result<(), Error> {
+    let (dump_len, message_len) = (dump.len(), message.len());
+    let (dump, message) = (dump.as_mut_ptr(), message.as_ptr());
+    // SAFETY: `dump` is read and written, `message` is read within their lengths; they are distinct borrows.
+    let number = unsafe { luffa_columns_inject(code, dump, dump_len, message, message_len) };
+    Error::judge(number.into(), 0)
 }
 
 /// A sheet as it is lent to a save: its code, its records and marks with the room behind them, and the

@@ -49,6 +49,19 @@
 //! # Ok::<(), Error>(())
 //! ```
 //!
+//! A controller's state is dumped by [`columns`], and a message block injected into the dump:
+//!
+//! ```
+//! use luffa::{Code, Error, columns};
+//!
+//! let mut dump = columns::from_words(Code::Luffa256, &[0; 24])?;
+//! let message = columns::from_message(b"2: 21879 dm, 148.7 C, 20522 kPa\n");
+//! columns::inject(Code::Luffa256, &mut dump, &message)?;
+//! // Block 0 of zeros has taken the message as it is, one byte of three.
+//! assert!(dump.iter().step_by(3).eq(&message));
+//! # Ok::<(), Error>(())
+//! ```
+//!
 //! A [`Sheet`] takes a change only with the digest of the sheet that was seen:
 //!
 //! ```
@@ -95,6 +108,7 @@
 #![deny(unsafe_code, missing_docs)]
 
 mod code;
+pub mod columns;
 mod digest;
 mod error;
 mod ffi;

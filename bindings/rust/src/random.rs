@@ -19,6 +19,10 @@ impl Numbers {
         (0..n).map(|_| self.next() as u8).collect()
     }
 
+    pub fn block(&mut self) -> [u8; 32] {
+        [(); 32].map(|_| self.next() as u8)
+    }
+
     pub fn record(&mut self) -> [u8; 40] {
         [(); 40].map(|_| self.next() as u8)
     }

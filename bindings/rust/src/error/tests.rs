@@ -1,18 +1,19 @@
 //! The refusals: luffa.h's numbers, document 01's each met from the library itself. Those of longer output
-//! are met in hash/output/tests.rs too, those of a step back in hash/back/tests.rs, those of a mend in sheet/mend/refusals.rs, those of many changes in
-//! sheet/batch, those of a save that brings what was opened in sheet/opened, those of closing up in
-//! sheet/close_up, and those that a brine statement or a search for who depends on a well alone gives in
-//! plan/brine/refusals.rs and plan/reach.
+//! are met in hash/output/tests.rs too, those of a step back in hash/back/tests.rs, those of columns in
+//! columns/refusals.rs, those of a mend in sheet/mend/refusals.rs, those of many changes in sheet/batch, those
+//! of a save that brings what was opened in sheet/opened, those of closing up in sheet/close_up, and those that
+//! a brine statement or a search for who depends on a well alone gives in plan/brine/refusals.rs and
+//! plan/reach.
 
 use super::Error;
 use crate::ffi::{self, Lent, WhereAnswer};
-use crate::{Code, Digest, Luffa256, Opened, Sheet};
+use crate::{Code, Digest, Luffa256, Opened, Sheet, columns};
 
 #[test]
 fn numbers_and_sentences() {
     assert_eq!(Error::judge(0, 0), Ok(()));
     let mut sentences = Vec::new();
-    for number in (1..=15).chain(17..=23).chain([25]) {
+    for number in (1..=15).chain(17..=25) {
         let error = Error::judge(number, 5).unwrap_err();
         assert_eq!(u64::from(error.number()), number);
         let source: &dyn std::error::Error = &error;
@@ -21,7 +22,7 @@ fn numbers_and_sentences() {
     assert_eq!(Error::judge(11, 5), Err(Error::Stale { rounds: 5 }));
     sentences.sort();
     sentences.dedup();
-    assert_eq!(sentences.len(), 23);
+    assert_eq!(sentences.len(), 24);
 }
 
 /// A stale save that brings what was opened has the plain one's sentence, and where to look.
@@ -98,6 +99,7 @@ fn met_by_callers() {
     assert_eq!(hash.take_back(&[0; 32]), Err(Error::Back));
     assert_eq!(hash.finalize_bits("abc", 8), Err(Error::Odd));
     assert_eq!(Digest::of_bits(code, "", 1), Err(Error::Odd));
+    assert_eq!(columns::to_words(code, &[0; 95]), Err(Error::Columns));
     let mut out = [0; 260];
     assert_eq!(Luffa256::output("", &mut out), Err(Error::Words));
     assert_eq!(Luffa256::output("", &mut out[..10]), Err(Error::Out));

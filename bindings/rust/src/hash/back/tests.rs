@@ -9,10 +9,6 @@ use crate::{Code, Error, RECORD_BYTES, ffi};
 
 type Block = [u8; BLOCK_BYTES];
 
-fn block(numbers: &mut Numbers) -> Block {
-    [(); BLOCK_BYTES].map(|_| numbers.next() as u8)
-}
-
 /// A record of this count, which is of whole blocks, with any state.
 fn any_record(code: Code, count: u128, numbers: &mut Numbers) -> [u8; RECORD_BYTES] {
     let mut record = [0; RECORD_BYTES];
@@ -80,7 +76,7 @@ macro_rules! tests_of {
             #[test]
             fn a_chain() {
                 let mut numbers = Numbers(Hash::BYTES as u64);
-                let blocks: Vec<Block> = (0..10).map(|_| block(&mut numbers)).collect();
+                let blocks: Vec<Block> = (0..10).map(|_| numbers.block()).collect();
                 let (mut hash, mut records) = (Hash::new(), vec![]);
                 for block in &blocks {
                     records.push(hash.to_record());
@@ -102,7 +98,7 @@ macro_rules! tests_of {
                 let powers = (5..125).map(|bit| 1 << bit).filter(|&count| count <= most);
                 for count in powers.flat_map(|count| [count, count + 32, count * 2 - 32]) {
                     let record = any_record(Code::$name, count, &mut numbers);
-                    let block = block(&mut numbers);
+                    let block = numbers.block();
                     let mut hash = restored(&record);
                     hash.take_back(&block).unwrap();
                     assert_eq!(hash.to_record()[COUNT..], (count - 32).to_be_bytes());
@@ -120,7 +116,7 @@ macro_rules! tests_of {
             fn another_block() {
                 let mut numbers = Numbers(Hash::BYTES as u64);
                 let first = any_record(Code::$name, 64, &mut numbers);
-                let fed_block = block(&mut numbers);
+                let fed_block = numbers.block();
                 let fed = restored(&first).chain_update(fed_block);
                 for bit in 0..256 {
                     let mut other = fed_block;
@@ -143,7 +139,7 @@ macro_rules! tests_of {
                     let message = numbers.bytes(BLOCK_BYTES * blocks + 7);
                     let (before, rest) = message.split_at(BLOCK_BYTES * (blocks - 1));
                     let (last, rest) = rest.split_at(BLOCK_BYTES);
-                    let garbled = block(&mut numbers);
+                    let garbled = numbers.block();
                     for cut in 0..=BLOCK_BYTES {
                         let (one, two) = garbled.split_at(cut);
                         let mut hash = Hash::new().chain_update(before);
