@@ -1,8 +1,9 @@
 /* Cycles per byte of the archive and of portable.c over the same messages in one run, of feeding against the one-call digest, and of the
-   sheet calls against hashing the whole sheet, with the bars; then the other parts: back.c has the step back over a block, bits.c messages that stop
-   inside a byte, output.c longer output, mend.c the mending of marks, batch.c many changes in one save, close.c the closing up of struck records,
-   own.c saves with own marks, plans.c what a sheet means, reach.c who depends on a well, stack.c the stack of each call. It measures nothing before
-   all have given the same digests and marks, and the calls on sound sheets were right; --check leaves out the clock. */
+   sheet calls against hashing the whole sheet, with the bars; then the other parts: back.c has the step back over a block, columns.c states by
+   columns, bits.c messages that stop inside a byte, output.c longer output, mend.c the mending of marks, batch.c many changes in one save,
+   close.c the closing up of struck records, own.c saves with own marks, plans.c what a sheet means, reach.c who depends on a well, stack.c the
+   stack of each call. It measures nothing before all have given the same digests, marks and dumps, and the calls on sound sheets were right;
+   --check leaves out the clock. */
 #include "batch.h"
 #include "bench.h"
 #include "portable.h"
@@ -309,14 +310,15 @@ int main(int argc, char **argv)
     }
     fill(message, LONGEST);
 
-    if (!check(message) || !check_backs(message) || !check_bits(message) || !check_outputs(message) || !check_sheets(message) ||
-        !check_mends(message) || !check_close_ups(message) || !check_owns(message) || !check_plans() || !check_starts())
+    if (!check(message) || !check_backs(message) || !check_columns(message) || !check_bits(message) || !check_outputs(message) ||
+        !check_sheets(message) || !check_mends(message) || !check_close_ups(message) || !check_owns(message) || !check_plans() || !check_starts())
         return 1;
     if (!only_check) {
         digests(message);
         feeding(message);
         short_pieces(message);
         backs(message);
+        columns(message);
         bits(message);
         outputs(message);
         sheets(message);

@@ -58,6 +58,11 @@ int each_sheet(const char *what, sheet_check *right, size_t least, const uint8_t
 int check_backs(const uint8_t *message);
 void backs(const uint8_t *message);
 
+/* -- States by columns (columns.c) -- */
+
+int check_columns(const uint8_t *message);
+void columns(const uint8_t *message);
+
 /* -- Messages that stop inside a byte (bits.c) -- */
 
 int check_bits(const uint8_t *message);

@@ -1,5 +1,6 @@
 /* What the two C programs of the benchmark share: the starting variables, SubCrumb by the instructions of appendix D, MixWord, and the message
-   injection by the forms of appendix E. What they have in common after their rounds is in message.h. */
+   injection by the forms of appendix E, which columns.c has beside the archive's by columns. What they have in common after their rounds is in
+   message.h. */
 #ifndef PLAIN_H
 #define PLAIN_H
 

@@ -3,6 +3,7 @@
 #include "batch.h"
 #include "bench.h"
 #include "close.h"
+#include "columns.h"
 #include "mend.h"
 #include "output.h"
 #include "own.h"
@@ -75,7 +76,7 @@ static size_t own_stack(work *run, const struct job *job) { return most_touched(
 
 static int stack_line(const char *name, size_t most, size_t bar)
 {
-    printf("%-24s %6zu   at most %zu: %s\n", name, most, bar, verdict((double)most, (double)bar));
+    printf("%-26s %6zu   at most %zu: %s\n", name, most, bar, verdict((double)most, (double)bar));
     return most <= bar;
 }
 
@@ -105,6 +106,10 @@ int stacks(const uint8_t *message)
         {"luffa_hash_feed_bits", archive_hash_feed_bits, 0},
         {"luffa_hash_finish", archive_hash_finish, ENDED},
         {"luffa_hash_finish_output", archive_hash_finish_output, ENDED},
+        {"luffa_columns_from_words", archive_columns_from_words, 0},
+        {"luffa_words_from_columns", archive_words_from_columns, 0},
+        {"luffa_columns_from_message", archive_columns_from_message, 0},
+        {"luffa_columns_inject", archive_columns_inject, 0},
     }, SHEET_CALLS[] = {
         {"luffa_sheet_build", archive_build, 0},
         {"luffa_sheet_change", archive_change_middle, 0},
