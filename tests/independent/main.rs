@@ -128,6 +128,19 @@ fn input() -> io::Result<File> {
     Ok(File::from(io::stdin().as_fd().try_clone_to_owned()?))
 }
 
+/// Standard input as far as its first `most` bytes.
+fn input_bytes(most: usize) -> io::Result<Vec<u8>> {
+    let mut bytes = Vec::new();
+    input()?.take(most as u64).read_to_end(&mut bytes)?;
+    Ok(bytes)
+}
+
+/// Words as a caller of the library has them: in the machine's own form.
+fn own_words(bytes: &[u8]) -> Vec<u32> {
+    let words = bytes.as_chunks().0.iter();
+    words.map(|&word| u32::from_ne_bytes(word)).collect()
+}
+
 /// Feeds standard input to every hash. Answers its length, or nothing if that passes the limit.
 fn feed(hashes: &mut [Luffa]) -> io::Result<Option<u64>> {
     let mut input = input()?;
@@ -212,8 +225,7 @@ fn longer_output(code: usize, words: usize, bits: Option<u64>) -> io::Result<Exi
 
 /// The bytes that the first n bits of standard input stand in, unless it has fewer.
 fn bytes_of_bits(n: u64) -> io::Result<Option<Vec<u8>>> {
-    let mut bytes = Vec::new();
-    input()?.take(n.div_ceil(8)).read_to_end(&mut bytes)?;
+    let bytes = input_bytes(n.div_ceil(8) as usize)?;
     if (bytes.len() as u64) < n.div_ceil(8) {
         eprintln!("standard input has fewer than {n} bits");
         return Ok(None);
@@ -278,9 +290,8 @@ fn pieces() -> io::Result<ExitCode> {
 /// The wells on standard input, unless they are too many for a sheet or it ends inside a record.
 fn sheet_wells() -> io::Result<Option<Vec<Well>>> {
     let most = RECORD_BYTES * MOST;
-    let mut bytes = Vec::new();
     // A byte more than a sheet can have shows that there are too many.
-    input()?.take(most as u64 + 1).read_to_end(&mut bytes)?;
+    let bytes = input_bytes(most + 1)?;
     let whole = bytes.len() % RECORD_BYTES == 0;
     Ok(whole.then(|| plan::wells(&bytes, MOST)))
 }
@@ -298,8 +309,7 @@ fn plan_fault() -> io::Result<ExitCode> {
 
 fn brine_page(counts: Vec<usize>) -> io::Result<ExitCode> {
     let most = brine::MOST_SHEETS * RECORD_BYTES * MOST;
-    let mut bytes = Vec::new();
-    input()?.take(most as u64).read_to_end(&mut bytes)?;
+    let bytes = input_bytes(most)?;
     // What is printed needs no places.
     let refusals = brine::refusals(bytes.len(), &counts, usize::MAX);
     if let Some(number) = refusals.first() {
@@ -350,18 +360,11 @@ fn reached(well: usize, hops: usize) -> io::Result<ExitCode> {
     Ok(ExitCode::SUCCESS)
 }
 
-/// The words of the marks are read in the machine's own form, in which a caller of the library has them.
 fn mend_marks(code: usize, n: usize) -> io::Result<ExitCode> {
     let most = RECORD_BYTES * MOST + 4 * MARK_WORDS * (MOST / GROUP + 1);
-    let mut bytes = Vec::new();
-    input()?.take(most as u64).read_to_end(&mut bytes)?;
+    let bytes = input_bytes(most)?;
     let (records, marks) = bytes.split_at(bytes.len().min(n.saturating_mul(RECORD_BYTES)));
-    let words: Vec<u32> = marks
-        .as_chunks()
-        .0
-        .iter()
-        .map(|&word| u32::from_ne_bytes(word))
-        .collect();
+    let words = own_words(marks);
     if let Some(number) = mend::refusals(code, records.len(), n, words.len()).first() {
         return failed(&format!("{number}\n"));
     }
@@ -382,8 +385,8 @@ fn mend_marks(code: usize, n: usize) -> io::Result<ExitCode> {
     Ok(ExitCode::SUCCESS)
 }
 
-fn print_record(record: &[u8]) -> io::Result<ExitCode> {
-    let digits: String = record.iter().map(|byte| format!("{byte:02x}")).collect();
+fn print_bytes(bytes: &[u8]) -> io::Result<ExitCode> {
+    let digits: String = bytes.iter().map(|byte| format!("{byte:02x}")).collect();
     print(&format!("{digits}\n"))?;
     Ok(ExitCode::SUCCESS)
 }
@@ -394,17 +397,16 @@ fn kept_record(code: usize, n: u64) -> io::Result<ExitCode> {
         return Ok(ExitCode::FAILURE);
     };
     let bits = bits::bits_of(&bytes).take(n as usize);
-    print_record(&Kept::start(code).feed(bits).write())
+    print_bytes(&Kept::start(code).feed(bits).write())
 }
 
 fn record_before() -> io::Result<ExitCode> {
     // A byte more than a record and a block have shows that there are too many.
     let most = RECORD + back::BLOCK_BYTES + 1;
-    let mut bytes = Vec::new();
-    input()?.take(most as u64).read_to_end(&mut bytes)?;
+    let bytes = input_bytes(most)?;
     let (record, block) = bytes.split_at(bytes.len().min(RECORD));
     match back::back(record, block) {
-        Ok(before) => print_record(&before),
+        Ok(before) => print_bytes(&before),
         Err(number) => failed(&format!("{number}\n")),
     }
 }
