@@ -7,8 +7,8 @@
 use crate::luffa::*;
 use crate::sheet::{Record, Saved, Sheet, MARK_WORDS, MOST};
 use crate::{
-    check_back, check_batch, check_bits, check_brine, check_close_up, check_mend, check_output,
-    check_own, check_plan, check_reach, check_record,
+    check_back, check_batch, check_bits, check_brine, check_close_up, check_columns, check_mend,
+    check_output, check_own, check_plan, check_reach, check_record,
 };
 use std::fmt::Debug;
 
@@ -148,6 +148,7 @@ pub fn differences() -> Vec<String> {
     check_close_up::differences(&mut report, numbers);
     check_record::differences(&mut report, numbers);
     check_back::differences(&mut report, numbers);
+    check_columns::differences(&mut report, numbers);
     report.0
 }
 

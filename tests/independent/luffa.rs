@@ -13,7 +13,7 @@ pub type Block = [u64; 4];
 pub const CODES: [(usize, usize); 4] = [(3, 7), (3, 8), (4, 12), (5, 16)];
 
 /// Exponents of phi (3.2), the definition polynomial of the field.
-const PHI: [u32; 5] = [8, 4, 3, 1, 0];
+pub const PHI: [u32; 5] = [8, 4, 3, 1, 0];
 
 /// Exponents of g (4.4), the polynomial of the constant generator.
 const G: [u32; 31] = [

@@ -2,8 +2,8 @@
 //! four output lines are those of the digest program in the build requirements, `words` gives the
 //! longer output of document 02, `bits` takes a message that stops inside a byte, `plan` is the check
 //! of a sheet's content, `brine` the brine statement over a batch of sheets, `reach` tells who depends on a
-//! well, `mend` finds the spoiled marks of a sheet, `record` keeps a message as a hash record, and `back` takes such a
-//! record's last block back.
+//! well, `mend` finds the spoiled marks of a sheet, `record` keeps a message as a hash record, `back` takes such a
+//! record's last block back, and `columns`, `state` and `inject` are about dumps by columns.
 
 mod back;
 mod batch;
@@ -15,6 +15,7 @@ mod check_batch;
 mod check_bits;
 mod check_brine;
 mod check_close_up;
+mod check_columns;
 mod check_mend;
 mod check_output;
 mod check_own;
@@ -22,6 +23,7 @@ mod check_plan;
 mod check_reach;
 mod check_record;
 mod close_up;
+mod columns;
 mod luffa;
 mod mend;
 mod output;
@@ -56,6 +58,10 @@ usage: independent               four digest lines for standard input
        independent mend CODE N   which marks of a sheet of N records are wrong, and what they should be
        independent record CODE N the hash record of the first N bits of standard input
        independent back          the record before the block that follows it on standard input
+       independent columns       the dump of the message block on standard input
+       independent columns CODE  the dump of the state whose words are on standard input
+       independent state CODE    the words of the state whose dump is on standard input
+       independent inject CODE   the state dump after the injection of the message dump that follows it
        independent check         checks itself against the specification";
 
 /// The house limit on message bytes.
@@ -96,6 +102,13 @@ fn main() -> ExitCode {
             _ => return usage(),
         },
         ["back"] => record_before(),
+        ["columns"] => message_columns(),
+        [call @ ("columns" | "state" | "inject"), code] => match (code_of(code.as_bytes()), call) {
+            (Some(code), "columns") => state_columns(code),
+            (Some(code), "state") => state_words(code),
+            (Some(code), _) => injected(code),
+            _ => return usage(),
+        },
         ["check"] => check_all(),
         _ => return usage(),
     };
@@ -409,6 +422,58 @@ fn record_before() -> io::Result<ExitCode> {
         Ok(before) => print_bytes(&before),
         Err(number) => failed(&format!("{number}\n")),
     }
+}
+
+/// The message block or the dumps on standard input, which `refusals` judges by their length; where none holds, what
+/// `done` gives for them is printed.
+fn dumped(
+    refusals: impl FnOnce(usize) -> Vec<u64>,
+    done: impl FnOnce(&[u8]) -> io::Result<ExitCode>,
+) -> io::Result<ExitCode> {
+    // A byte more than the longest have shows that there are too many.
+    let bytes = input_bytes(COLUMN_BYTES + 1)?;
+    match refusals(bytes.len()).first() {
+        Some(number) => failed(&format!("{number}\n")),
+        None => done(&bytes),
+    }
+}
+
+/// The most bytes that are read for a dump: those of five blocks and of a message.
+const COLUMN_BYTES: usize = 6 * columns::POSITIONS;
+
+fn message_columns() -> io::Result<ExitCode> {
+    dumped(
+        |bytes| columns::message_refusals(bytes, columns::MESSAGE_DUMP),
+        |block| print_bytes(&columns::dump_of_message(block)),
+    )
+}
+
+/// A state has as many bytes as words as it has as a dump.
+fn state_refusals(code: usize) -> impl FnOnce(usize) -> Vec<u64> {
+    move |bytes| columns::conversion_refusals(code, bytes / 4, bytes)
+}
+
+fn state_columns(code: usize) -> io::Result<ExitCode> {
+    dumped(state_refusals(code), |words| {
+        print_bytes(&columns::dump_of_words(&own_words(words)))
+    })
+}
+
+fn state_words(code: usize) -> io::Result<ExitCode> {
+    dumped(state_refusals(code), |dump| {
+        let words = columns::words_of_dump(CODES[code - 1].0, dump);
+        print(&format!("{}\n", hex(&words)))?;
+        Ok(ExitCode::SUCCESS)
+    })
+}
+
+fn injected(code: usize) -> io::Result<ExitCode> {
+    let w = CODES[code - 1].0;
+    let state = columns::POSITIONS * w;
+    dumped(
+        |bytes| columns::injection_refusals(code, bytes.min(state), bytes.saturating_sub(state)),
+        |bytes| print_bytes(&columns::inject(w, &bytes[..state], &bytes[state..])),
+    )
 }
 
 fn check_all() -> io::Result<ExitCode> {
