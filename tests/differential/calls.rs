@@ -195,7 +195,7 @@ impl Lent {
     }
 
     /// Words, which must stand at a multiple of four.
-    fn words(words: &[u32]) -> Lent {
+    pub fn words(words: &[u32]) -> Lent {
         Lent::elements(words.iter().map(|word| word.to_ne_bytes()).collect())
     }
 

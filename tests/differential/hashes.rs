@@ -169,7 +169,7 @@ pub fn near_limit(numbers: &mut Numbers, met: &mut Met) -> Agreed {
 const LENGTHS: [usize; 8] = [0, 1, 207, 209, 215, 217, 416, 432];
 
 /// Bits that make a code or a number of odd bits too wide for a record's byte.
-const WIDE_BITS: [u32; 4] = [8, 16, 32, 63];
+pub const WIDE_BITS: [u32; 4] = [8, 16, 32, 63];
 
 /// Every way in which `malformed` and `malformed_struct` spoil one.
 pub fn malformed_kinds() -> Vec<String> {

@@ -1,7 +1,7 @@
 //! The archive against a model of its calls over the separately written program, on random messages, cuts, records,
-//! steps back, numbers of words, sheets, marks, sets of changes, struck wells, pairs of desks, planners' own marks,
-//! plans, their wells and batches of them: differential [SEED [CASES]]. Case k of a seed is case 0 of the seed k higher,
-//! so that one that failed is run again alone.
+//! steps back, numbers of words, dumps by columns, sheets, marks, sets of changes, struck wells, pairs of desks,
+//! planners' own marks, plans, their wells and batches of them: differential [SEED [CASES]]. Case k of a seed is case 0
+//! of the seed k higher, so that one that failed is run again alone.
 
 mod back_calls;
 mod back_kinds;
@@ -16,6 +16,9 @@ mod calls;
 mod close_up_kinds;
 mod close_ups;
 mod desks;
+mod dump_calls;
+mod dump_kinds;
+mod dumps;
 mod hash_calls;
 mod hash_kinds;
 mod hashes;
@@ -50,6 +53,8 @@ mod bits;
 mod brine;
 #[path = "../independent/close_up.rs"]
 mod close_up;
+#[path = "../independent/columns.rs"]
+mod columns;
 #[path = "../independent/luffa.rs"]
 #[allow(dead_code)]
 mod luffa;
@@ -149,6 +154,9 @@ const SPOILED_BACKS: usize = 2;
 /// The messages and free records of a case that longer output is asked of.
 const OUTPUTS: usize = 4;
 
+/// The states and message blocks of a case that each call over dumps is made of.
+const DUMPS: usize = 2;
+
 /// The sheets of a case whose marks are mended.
 const MENDS: usize = 2;
 
@@ -195,6 +203,13 @@ fn case(seed: u64, met: &mut Met) -> Agreed {
         outputs::message(numbers, met)?;
         outputs::free_record(numbers, met)?;
     }
+    for _ in 0..DUMPS {
+        dumps::dump(numbers, met)?;
+    }
+    dumps::values(numbers, met)?;
+    dumps::there_and_back(numbers, met)?;
+    dumps::chain(numbers, met)?;
+    dumps::rounds(numbers, met)?;
     histories::history(numbers, met)?;
     for _ in 0..MENDS {
         mends::mend(numbers, met)?;
@@ -243,6 +258,7 @@ fn main() {
         hash_kinds::print(&met),
         back_kinds::print(&met),
         output_kinds::print(&met),
+        dump_kinds::print(&met),
         histories::print(&met),
         batch_kinds::print(&met),
         close_up_kinds::print(&met),
