@@ -8,7 +8,7 @@ SONAME := libluffa.so.2
 
 # rt compiles for x86-64 alone: on another processor the compiler that links is one for x86-64.
 GCC := $(if $(filter x86_64,$(shell uname -m)),gcc,x86_64-linux-gnu-gcc)
-AR := $(GCC:gcc=ar)
+AR := $(if $(filter x86_64,$(shell uname -m)),ar,x86_64-linux-gnu-ar)
 
 # The tests name others here, so as to leave these alone.
 LUFFA_ARCHIVE ?= target/staticlib/libluffa.a
@@ -17,6 +17,8 @@ LUFFASUM ?= target/bin/luffasum
 
 .PHONY: all install clean
 .NOTPARALLEL:
+# An archive that isn't whole isn't left for the next make.
+.DELETE_ON_ERROR:
 all: $(LUFFA_ARCHIVE) $(LUFFA_LIB)/libluffa.so $(LUFFASUM)
 
 # rt knows by itself what has to be proved again; the sources say when to ask it. rt check proves

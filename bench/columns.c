@@ -6,8 +6,8 @@
 #include <stdio.h>
 
 /* The word form: 3.2 on 8w words where they stand, by plain.h as portable.c has it in its rounds. It is a call, so that the state is read from memory
-   and written there each time, as a dump is. The message is doubled on the way, so it is copied first, within the call: kept in memory between the
-   two it would cost half as much again at w = 3. */
+   and written there each time, as a dump is. The message is doubled on the way, so it is copied first, within the call: handed
+   over in memory, the message would make it cost half as much again at w = 3. */
 __attribute__((noinline)) static void inject_words(size_t w, uint32_t *state, const uint8_t *words)
 {
     uint32_t(*h)[8] = (uint32_t(*)[8])state, m[8];

@@ -271,8 +271,9 @@ struct luffa_output_answer luffa_hash_finish_output(const struct luffa_hash *has
 
 /*
  * A state by columns, as a controller dumps it. A state is w blocks of eight words of 32 bits, w being 3, 3,
- * 4 and 5 at codes 1 to 4: word 8j + k of the 8w is word k of block j. They are the words of luffa_hash, or of
- * a mark, and those that a record has from byte 8 on.
+ * 4 and 5 at codes 1 to 4: word 8j + k of the 8w is word k of block j. They are the first 8w words of a
+ * luffa_hash's state, or of a mark, and those that a record has from byte 8 on, high byte first. All 40 of these
+ * are refused where w isn't 5.
  *
  * Its dump is 32w bytes: for each position l from 0 to 31, which counts the bits of a word from the lowest, one
  * byte for each block. Byte w * l + j is for block j, and its bit k, counted from the lowest too, is bit l of
@@ -315,7 +316,8 @@ uint32_t luffa_columns_from_message(const uint8_t *block, size_t block_len, uint
 /*
  * Injects a message block into a state (section 3.2 of the specification), as a round does before it permutes the
  * blocks, and all by columns: the state's dump becomes, where it stands, that of the state with the block injected.
- * message is a dump too, the one that luffa_columns_from_message gives, and stays as it was.
+ * message is a dump too, the one that luffa_columns_from_message gives, and stays as it was. The block itself is
+ * as long and isn't refused: it would be taken for a dump.
  *   1 LUFFA_WIDTH    code isn't 1 to 4
  *  24 LUFFA_COLUMNS  dump_len isn't 32w, or message_len isn't LUFFA_BLOCK_BYTES
  */

@@ -1,4 +1,4 @@
--- Eight words from a place on are the block that is read there; and where the rows of a dump end.
+-- Eight words from a place on are the block that is read there; and a block's words as they are read bit by bit.
 -- Assumes nothing.
 use mathlib.Core.Path.{_≡_, sym, ap, _∙_}
 use mathlib.Core.List.{List}

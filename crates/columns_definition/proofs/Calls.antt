@@ -38,7 +38,7 @@ pub message-due : (b d : ℕ) → firstOf (messageRefusals b d) ≡ 0 → (b ≡
 unfolding messageRefusals columnsRefusal conditionOf pick
 message-due b d e = not-24 b 32 d 32 (fails (columnsRefusal b 32 d 32 ∷ []) (omega arith) e COLUMNS)
 
--- a call with a code is done exactly where the code is known too
+-- a call with a code is done only where the code is known too
 pub due : (code a due-a b due-b : ℕ) → firstOf (widthRefusal code ∷ columnsRefusal a due-a b due-b ∷ []) ≡ 0
     → (widthRefusal code .1 ≡ false) × (a ≡ due-a) × (b ≡ due-b)
 unfolding widthRefusal columnsRefusal conditionOf pick

@@ -1,8 +1,8 @@
--- A dump has each block's bytes where the request says, and conversion loses nothing: blocks are read back from their dump, any 32w bytes are
--- the dump of what is read from them, and words are the words of their blocks. Once, over any number of blocks.
+-- A dump has each block's bytes where the request says, and conversion loses nothing: blocks are read back from their dump, and any 32w bytes are
+-- the dump of what is read from them. Once, over any number of blocks.
 -- Assumes nothing.
 use mathlib.Core.Path.{_≡_, refl, sym, ap, _∙_}
-use mathlib.Core.List.{List, [], _∷_, _++_, map}
+use mathlib.Core.List.{List, [], _∷_, map, map-append}
 use Prim.Native.Nat.{ℕ, zero, suc, _+_, _*_, _^_, _<_}
 use native.Mathlib.Nat.{mul-comm}
 use native.Mathlib.Omega.{arith}
@@ -18,10 +18,6 @@ use Rattle.definition.proofs.Every.{every-at}
 use Rattle.definition.proofs.Field.{element-lt, element-zero}
 use Rattle.columns_definition.specs.Dump.{upTo, column, dump, blockTo, blockAt, undump, columnAt}
 use Rattle.columns_definition.proofs.Rows.{upTo-of, rows-cong, length-rows, row-at, row-place, column-place, all-rows, length-column}
-
-pub map-append : {A B : Type 0} (g : A → B) (l m : List A) → map g (l ++ m) ≡ map g l ++ map g m
-map-append g [] m = refl
-map-append {B = B} g (a ∷ l) m = ap (λ (r : List B). g a ∷ r) (map-append g l m)
 
 pub map-upTo : {A B : Type 0} (g : A → B) (n : ℕ) (f : ℕ → A) → map g (upTo n f) ≡ upTo n (λ i. g (f i))
 unfolding upTo

@@ -1,23 +1,23 @@
 -- Column and word forms agree: the matrices of 3.2.1 to 3.2.3 on a dump give the dump of what they give on the words. Once, over w.
 -- Assumes nothing.
 use mathlib.Core.Path.{_≡_, refl, sym, ap, ap₂, _∙_}
-use mathlib.Core.List.{List, [], _∷_, _++_, map}
+use mathlib.Core.List.{List, [], _∷_, _++_, map, map-append}
 use Prim.Native.Nat.{ℕ, _+_, _*_, _^_, _<_}
 use native.Mathlib.Omega.{arith}
 use lib.Bits.{bitXor}
-use lib.ListN.{length, getD}
+use lib.ListN.{length, getD, length-map}
 use Rattle.definition.specs.declared.Block.{Block}
 use Rattle.definition.specs.declared.Width.{Width}
-use Rattle.definition.specs.declared.Width.the-variants.{W3, W4, W5}
-use Rattle.definition.specs.Block.{_⊕_}
+use Rattle.definition.specs.Block.{zeroBlock}
 use Rattle.definition.specs.Field.{times, element}
 use Rattle.definition.specs.Injection.{matrix, row, inject}
 use Rattle.definition.specs.Width.{blockCount}
+use Rattle.definition.proofs.Chain.{length-inject}
 use Rattle.definition.proofs.Field.{times-element, element-⊕, element-zero}
 use Rattle.columns_definition.specs.Dump.{upTo, column, dump, blockAt, undump}
 use Rattle.columns_definition.specs.Columns.{rowSum, injectColumn, injectDump}
 use Rattle.columns_definition.proofs.Rows.{length-upTo, rows-cong}
-use Rattle.columns_definition.proofs.Dumps.{map-append, dump-column, dump-place, dump-undump}
+use Rattle.columns_definition.proofs.Dumps.{dump-column, dump-place, dump-undump}
 
 -- 3.2: a row times the blocks is, at position l, the row times their elements
 row-element : (l : ℕ) (cs : List ℕ) (bs : List Block) → element l (row cs bs) ≡ rowSum cs (map (element l) bs)
@@ -66,7 +66,5 @@ inject-any w d m e k b c =
 
 -- w bytes come of a position
 pub length-injected : (w : Width) (es : List ℕ) (m : ℕ) → length (injectColumn w es m) ≡ blockCount w
-unfolding injectColumn matrix blockCount
-length-injected W3 es m = refl
-length-injected W4 es m = refl
-length-injected W5 es m = refl
+unfolding injectColumn inject
+length-injected w es m = length-map (matrix w) _ ∙ sym (length-map (matrix w) _) ∙ length-inject w [] zeroBlock

@@ -26,7 +26,7 @@ use Rattle.columns_definition.specs.Columns.{rowSum, injectColumn, injec
 use Rattle.columns_definition.proofs.Dumps.{undump-dump, dump-undump}
 use Rattle.columns_definition.proofs.Injection.{inject-dump, inject-any}
 use Rattle.columns_definition.proofs.Products.{products-rule}
-use Rattle.columns_definition.proofs.Outcomes.{from-words-untouched, inject-untouched}
+use Rattle.columns_definition.proofs.Outcomes.{from-words-untouched, to-words-untouched, from-message-untouched, inject-untouched}
 use Rattle.columns_definition.proofs.Calls.{words-again, dump-again, injected}
 
 -- numbers below a bound
@@ -72,12 +72,24 @@ pub dump-there : fromWordsOutcome 4 (toWordsOutcome 4 bytes words .buffer) bytes
 dump-there = dump-again 4 bytes words unconverted (all-below 160 0xa5 (2 ^ 8) (omega arith) (omega arith)) bytes refl
 
 -- a dump of another width is refused, and stays; an unknown code is 1, whatever the lengths: the untouched
-pub refused : (fromWordsOutcome 3 words bytes .number ≡ 24) × (injectOutcome 5 [] [] .number ≡ 1) × (injectOutcome 4 bytes [] .number ≡ 24)
-unfolding everything outcome fromWordsOutcome injectOutcome wordsRefusals injectRefusals blocksAt columnsRefusal
-refused = (refl, refl, refl)
+pub refused : (fromWordsOutcome 3 words bytes .number ≡ 24)
+    × (injectOutcome 5 [] [] .number ≡ 1)
+    × (injectOutcome 4 bytes [] .number ≡ 24)
+    × (toWordsOutcome 3 bytes words .number ≡ 24)
+    × (fromMessageOutcome [] sevens .number ≡ 24)
+unfolding everything outcome fromWordsOutcome toWordsOutcome fromMessageOutcome injectOutcome wordsRefusals messageRefusals injectRefusals blocksAt columnsRefusal
+refused = (refl, refl, refl, refl, refl)
 
-pub stays : (fromWordsOutcome 3 words bytes .buffer ≡ bytes) × (injectOutcome 4 bytes [] .buffer ≡ bytes)
-stays = (from-words-untouched 3 words bytes (λ e. absurd (omega (arith, e, refused .0))), inject-untouched 4 bytes [] (λ e. absurd (omega (arith, e, refused .2))))
+pub stays : (fromWordsOutcome 3 words bytes .buffer ≡ bytes)
+    × (injectOutcome 4 bytes [] .buffer ≡ bytes)
+    × (toWordsOutcome 3 bytes words .buffer ≡ words)
+    × (fromMessageOutcome [] sevens .buffer ≡ sevens)
+stays = (
+  from-words-untouched 3 words bytes (λ e. absurd (omega (arith, e, refused .0))),
+  inject-untouched 4 bytes [] (λ e. absurd (omega (arith, e, refused .2))),
+  to-words-untouched 3 bytes words (λ e. absurd (omega (arith, e, refused .3))),
+  from-message-untouched [] sevens (λ e. absurd (omega (arith, e, refused .4))),
+)
 
 -- w blocks of words: undump-dump, inject-dump; any bytes: dump-undump, inject-any
 pub start-there : undump 5 (dump (start W5)) ≡ start W5
@@ -95,7 +107,7 @@ unfolding blockCount
 bytes-injected =
     inject-any W5 bytes sevens refl refl (all-below 160 0xa5 (2 ^ 8) (omega arith) (omega arith)) (all-below 32 7 (2 ^ 8) (omega arith) (omega arith))
 
--- bit 17 of word 5 of the second of two blocks is bit 5 of byte 2 * 17 + 1, and no other bit is 1
+-- bit 17 of word 5 of the second of two blocks is bit 5 of byte 2 * 17 + 1, and no other bit of that byte is 1
 abbrev one-bit : Block
 one-bit = record { a0 = 0; a1 = 0; a2 = 0; a3 = 0; a4 = 0; a5 = 2 ^ 17; a6 = 0; a7 = 0 }
 

@@ -24,7 +24,7 @@ fn position(dump: &[u8], n: usize, l: usize) -> [u8; 5]
     c
 }
 
-// The same put there.
+// The first n of five bytes put at position l.
 fn put_column(dump: &mut [u8], n: usize, l: usize, c: [u8; 5])
     requires { ⌜ (n ≤ 5) × (l < 32) × (length (now dump) ≡ 32 * n) ⌝ }
     ensures { λ _. ⌜ now (dump .exit) ≡ overwriteAt (n * l) (take n c) (now (dump .entry)) ⌝ }
