@@ -1,6 +1,6 @@
 /* A planner has mistyped the injector of a link. The check says at which place, and which rule is
    broken; mended, the sheet is sound. To build it:
-   gcc -Iinclude examples/plan/plan.c target/staticlib/libluffa.a -o plan
+   gcc -Iinclude examples/check/check.c target/staticlib/libluffa.a -o check
 */
 #include "../wells.h"
 #include <stdio.h>
