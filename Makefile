@@ -1,6 +1,7 @@
-# The library for C: `make` builds the archive, the shared object and the program; `make install`
-# puts them under PREFIX with the header, the manual page and a pkg-config file. Proving and
-# compiling are rt's; here is only linking and copying.
+# The library for C and the planners' workstation: `make` builds the archive, the shared object, the digest
+# program and `plan`; `make story` builds what `plan` needs and plays its story; `make install` puts everything
+# under PREFIX with the header, the manual pages and a pkg-config file. Proving and compiling the library are rt's;
+# here are linking, copying and the workstation, which is C.
 
 PREFIX ?= /usr/local
 VERSION := 2.8.0
@@ -14,26 +15,40 @@ AR := $(if $(filter x86_64,$(shell uname -m)),ar,x86_64-linux-gnu-ar)
 LUFFA_ARCHIVE ?= target/staticlib/libluffa.a
 LUFFA_LIB ?= target/lib
 LUFFASUM ?= target/bin/luffasum
+PLAN ?= target/bin/plan
 
-.PHONY: all install clean
+.PHONY: all story install clean
 .NOTPARALLEL:
 # An archive that isn't whole isn't left for the next make.
 .DELETE_ON_ERROR:
-all: $(LUFFA_ARCHIVE) $(LUFFA_LIB)/libluffa.so $(LUFFASUM)
+all: $(LUFFA_ARCHIVE) $(LUFFA_LIB)/libluffa.so $(LUFFASUM) $(PLAN)
 
 # rt knows by itself what has to be proved again; the sources say when to ask it. rt check proves
 # crates that don't need each other side by side and builds the program too; rt staticlib would take
 # them one after the other, and here finds them proved. Each static library is one object: the calls on
-# columns join the archive as a second one, which is linked only where they are called.
+# columns join the archive as a second one, which is linked only where they are called. The first one
+# alone is all that the workstation needs, and is proved before the rest.
 SOURCES := crates.txt $(shell find crates -name '*.rt')
-target/staticlib/libluffa.a: $(SOURCES)
-	rt check luffa luffa_columns luffasum
+FIRST := target/staticlib/first/libluffa.a
+$(FIRST): $(SOURCES)
+	rt check luffa
 	rt staticlib luffa
+	mkdir -p $(@D) && mv target/staticlib/libluffa.a $@
+target/staticlib/libluffa.a: $(FIRST)
+	rt check luffa_columns luffasum
 	rt staticlib luffa_columns
+	cp $(FIRST) $@
 	cd $(@D) && $(AR) x libluffa_columns.a && $(AR) rs $(@F) luffa_columns.o && rm luffa_columns.o
 target/bin/luffasum: $(SOURCES)
 	rt check luffasum
 	touch -c $@
+
+$(PLAN): $(FIRST) include/luffa.h $(wildcard workstation/*.[ch])
+	mkdir -p $(@D)
+	$(GCC) -std=c11 -O2 -Wall -Wextra -Wconversion -Iinclude workstation/*.c $(FIRST) -o $@
+
+story: $(PLAN)
+	@workstation/story $(PLAN)
 
 # -z defs: a name that neither the archive nor the C library has is an error here already.
 $(LUFFA_LIB)/libluffa.so: $(LUFFA_ARCHIVE) luffa.map
@@ -50,8 +65,10 @@ install: all
 	ln -sf $(SONAME) $(DESTDIR)$(PREFIX)/lib/libluffa.so
 	sed 's|@PREFIX@|$(PREFIX)|; s|@VERSION@|$(VERSION)|' luffa.pc.in >$(DESTDIR)$(PREFIX)/lib/pkgconfig/luffa.pc
 	install -m 755 $(LUFFASUM) $(DESTDIR)$(PREFIX)/bin/luffasum
-	install -m 644 man/luffasum.1 $(DESTDIR)$(PREFIX)/share/man/man1/
+	install -m 755 $(PLAN) $(DESTDIR)$(PREFIX)/bin/plan
+	install -m 644 man/luffasum.1 man/plan.1 $(DESTDIR)$(PREFIX)/share/man/man1/
 
 # What rt made stays: to prove it again takes minutes.
 clean:
-	rm -f $(LUFFA_LIB)/libluffa.so $(LUFFA_LIB)/$(SONAME)
+	rm -f $(LUFFA_LIB)/libluffa.so $(LUFFA_LIB)/$(SONAME) $(PLAN)
+	rm -rf target/story

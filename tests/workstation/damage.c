@@ -1,6 +1,6 @@
 /* Files of sheets: a whole one is read as it was written, and none that was cut off, lengthened or altered in a bit is
    read at all. `damage full FILE CODE` writes a full sheet instead. */
-#include "../../examples/two-planners/sheet.h"
+#include "../../workstation/sheet.h"
 #include <stdio.h>
 #include <stdlib.h>
 #include <string.h>
@@ -11,7 +11,7 @@ static size_t len;
 
 static void fail(const char *what, size_t at)
 {
-    printf("damage: %s (code %zu, %zu records, at %zu)\n", what, sheet.code, sheet.n, at);
+    printf("damage: %s (code %zu, %zu records, at %zu)\n", what, sheet.code, sheet.list.n, at);
     exit(1);
 }
 
@@ -19,13 +19,14 @@ static void make(size_t code, size_t n)
 {
     memset(&sheet, 0, sizeof sheet);
     sheet.code = code;
-    sheet.n = n;
+    sheet.list.n = n;
     sheet.saves = 7 * n;
-    for (size_t i = 0; i < n; i++)
-        snprintf((char *)sheet.records + RECORD * i, RECORD, "injector %zu: 40 kg", i);
-    if (luffa_sheet_build(code, sheet.records, sizeof sheet.records, n, sheet.marks, MARKS_MOST, sheet.digest,
-                          DIGEST_MOST)
-            .number != LUFFA_DONE)
+    sheet.logged = 1000 * n;
+    for (size_t i = 0; i < n; i++) {
+        put_number(sheet.list.records + RECORD * i, 2, i + 1);
+        sheet.list.records[RECORD * i + LUFFA_WELL_KIND] = LUFFA_INJECTOR;
+    }
+    if (sheet_build(&sheet) != LUFFA_DONE)
         fail("not built", 0);
     len = sheet_to_bytes(&sheet, bytes);
 }
@@ -39,9 +40,23 @@ static int taken(size_t n)
     if (!copy)
         fail("no room", n);
     memcpy(copy, bytes, n);
-    wrong = sheet_from_bytes(&read_back, copy, n);
+    wrong = sheet_from_bytes(&read_back, copy, n, NULL);
     free(copy);
     return wrong == NULL;
+}
+
+/* Where the reader may mend, an altered mark is mended and counted, and anything else is refused all the same. */
+static void mended(size_t at)
+{
+    struct luffa_mend_answer spoiled = {0};
+    int marks = at >= HEAD + RECORD * sheet.list.n;
+    int read_so = sheet_from_bytes(&read_back, bytes, len, &spoiled) == NULL;
+
+    if (read_so != marks)
+        fail(marks ? "a spoiled mark wasn't mended" : "altered, and mended", at);
+    if (marks && (spoiled.wrong != 1 || spoiled.first != (at - HEAD - RECORD * sheet.list.n) / 160 ||
+                  memcmp(&sheet, &read_back, sizeof sheet) != 0))
+        fail("mended to something else", at);
 }
 
 /* A head that is nonsense, but sealed. */
@@ -72,9 +87,11 @@ static void every(size_t code, size_t n)
         bytes[bit / 8] ^= (uint8_t)(1 << bit % 8);
         if (taken(len))
             fail("altered, and taken", bit / 8);
+        mended(bit / 8);
         bytes[bit / 8] ^= (uint8_t)(1 << bit % 8);
     }
-    sealed(8, 4, 2);
+    sealed(8, 4, 1);
+    sealed(8, 4, 3);
     sealed(12, 4, 0);
     sealed(12, 4, 5);
     sealed(12, 4, 0xffffffff);
@@ -84,7 +101,7 @@ static void every(size_t code, size_t n)
     sealed(16, 4, 0xffffffff);
     sealed(20, 4, 1);
     if (digest_bytes(code) < DIGEST_MOST)
-        sealed(32 + digest_bytes(code), 1, 1);
+        sealed(40 + digest_bytes(code), 1, 1);
 }
 
 int main(int argc, char **argv)
@@ -95,7 +112,7 @@ int main(int argc, char **argv)
         FILE *f = fopen(argv[2], "wb");
         make((size_t)atoi(argv[3]), LUFFA_SHEET_MOST);
         /* No saves: its log is an empty one. */
-        sheet.saves = 0;
+        sheet.saves = sheet.logged = 0;
         len = sheet_to_bytes(&sheet, bytes);
         return !f || fwrite(bytes, 1, len, f) != len || fclose(f) != 0;
     }

@@ -53,7 +53,7 @@ static void find(struct store *store, char *path, const char *file)
     if (len == 0 || strchr(name, '~') || (len > 4 && strcmp(name + len - 4, ".log") == 0) ||
         (len > 5 && strcmp(name + len - 5, ".lock") == 0))
         stop(USAGE, "%s: a sheet's name can't be empty, end in .log or .lock, or have a ~ in it.", file);
-    if (len + 24 > NAME_MAX)
+    if (len + 24 > NAME_MAX || strlen(path) >= PATH_MAX)
         stop(USAGE, "%s: the name is too long.", file);
     snprintf(store->name, sizeof store->name, "%s", name);
     snprintf(store->lock_name, sizeof store->lock_name, "%.*s.lock", NAME_MAX - 24, name);
@@ -63,7 +63,9 @@ static void find(struct store *store, char *path, const char *file)
         *slash = 0;
     store->lock = -1;
     store->mode = 0;
-    store->directory = open(directory, O_RDONLY | O_DIRECTORY);
+    store->given = file;
+    snprintf(store->folder, sizeof store->folder, "%s", directory);
+    store->directory = open(directory, O_RDONLY | O_DIRECTORY | O_CLOEXEC);
     if (store->directory < 0)
         stop_failed(FAILED, "Can't open the folder of", file);
 }
@@ -97,7 +99,7 @@ void store_lock(struct store *store)
 {
     struct flock whole = {.l_type = F_WRLCK, .l_whence = SEEK_SET};
 
-    store->lock = openat(store->directory, store->lock_name, O_RDWR | O_CREAT, 0666);
+    store->lock = openat(store->directory, store->lock_name, O_RDWR | O_CREAT | O_CLOEXEC, 0666);
     if (store->lock < 0)
         stop_failed(FAILED, "Can't open", store->lock_name);
     while (fcntl(store->lock, F_SETLKW, &whole) != 0)
@@ -105,10 +107,17 @@ void store_lock(struct store *store)
             stop_failed(FAILED, "Can't lock", store->lock_name);
 }
 
-void store_read(struct store *store, struct sheet *sheet)
+/* Closing the file lets go of the lock. */
+void store_unlock(struct store *store)
+{
+    close(store->lock);
+    store->lock = -1;
+}
+
+void store_read(struct store *store, struct sheet *sheet, struct luffa_mend_answer *spoiled)
 {
     static uint8_t bytes[FILE_MOST + 1];
-    int fd = openat(store->directory, store->name, O_RDONLY);
+    int fd = openat(store->directory, store->name, O_RDONLY | O_CLOEXEC);
     struct stat about;
     const char *wrong;
     ssize_t len;
@@ -125,7 +134,7 @@ void store_read(struct store *store, struct sheet *sheet)
     if (len < 0)
         stop_failed(FAILED, "Can't read", store->name);
     close(fd);
-    wrong = sheet_from_bytes(sheet, bytes, (size_t)len);
+    wrong = sheet_from_bytes(sheet, bytes, (size_t)len, spoiled);
     if (wrong)
         stop(DAMAGED, "%s is damaged and isn't used: %s.", store->name, wrong);
 }
@@ -149,23 +158,28 @@ void store_clean(const struct store *store)
     closedir(all);
 }
 
-/* The new sheet is on the disk before it takes the old one's name, and its name before anybody is told. */
-void store_replace(struct store *store, const struct sheet *sheet)
+/* A file is on the disk before it takes its name, so that nobody finds a part of one under it. */
+void store_put(const struct store *store, const char *name, mode_t mode, const uint8_t *bytes, size_t len)
 {
-    static uint8_t bytes[FILE_MOST];
-    size_t len = sheet_to_bytes(sheet, bytes);
-    int fd = openat(store->directory, store->new_name, O_WRONLY | O_CREAT | O_EXCL, 0666);
+    int fd = openat(store->directory, store->new_name, O_WRONLY | O_CREAT | O_EXCL | O_CLOEXEC, 0666);
 
     if (fd < 0)
         stop_failed(FAILED, "Can't make", store->new_name);
-    if ((store->mode && fchmod(fd, store->mode) != 0) || write_all(fd, bytes, len) != 0 || fsync(fd) != 0 ||
-        close(fd) != 0 ||
-        renameat(store->directory, store->new_name, store->directory, store->name) != 0) {
+    if ((mode && fchmod(fd, mode) != 0) || write_all(fd, bytes, len) != 0 || fsync(fd) != 0 || close(fd) != 0 ||
+        renameat(store->directory, store->new_name, store->directory, name) != 0) {
         int error = errno;
         unlinkat(store->directory, store->new_name, 0);
         errno = error;
-        stop_failed(FAILED, "Can't write", store->name);
+        stop_failed(FAILED, "Can't write", name);
     }
+}
+
+/* The new sheet has its name on the disk before anybody is told. */
+void store_replace(struct store *store, const struct sheet *sheet)
+{
+    static uint8_t bytes[FILE_MOST];
+
+    store_put(store, store->name, store->mode, bytes, sheet_to_bytes(sheet, bytes));
     closing = "";
     if (fsync(store->directory) != 0)
         stop_failed(UNSURE, "Saved, but it may not outlast a loss of power, as the system didn't confirm it:",

@@ -1,5 +1,6 @@
 /* The functions of say.h. */
 #include "say.h"
+#include "text.h"
 #include <errno.h>
 #include <luffa.h>
 #include <stdarg.h>
@@ -11,13 +12,15 @@ const char *closing = "";
 
 void stop(int status, const char *words, ...)
 {
+    char message[2048];
     va_list arguments;
 
     fflush(stdout);
-    fputs("planners: ", stderr);
     va_start(arguments, words);
-    vfprintf(stderr, words, arguments);
+    vsnprintf(message, sizeof message, words, arguments);
     va_end(arguments);
+    fputs("plan: ", stderr);
+    text_put(stderr, message);
     fprintf(stderr, "%s\n", closing);
     exit(status);
 }
@@ -32,38 +35,32 @@ const char *sentence(uint64_t answer)
     static const char *const sentences[] = {
         [LUFFA_DONE] = "Done.",
         [LUFFA_WIDTH] = "There is no such code: 1 is 224 bits, 2 is 256, 3 is 384 and 4 is 512.",
-        [LUFFA_OUT] = "There is too little room for the digest: a fault of this program.",
-        [LUFFA_RECORD] = "The hash record isn't well formed: a fault of this program.",
-        [LUFFA_LONG] = "The message is too long: a fault of this program.",
-        [LUFFA_SHEET] = "The sheet has too many records, or too little room for them: a fault of this program.",
-        [LUFFA_MARKS] = "There is too little room for the marks: a fault of this program.",
-        [LUFFA_PLACE] = "There is no record at this place.",
         [LUFFA_FULL] = "The sheet is full: it has 1,024 records, and takes no more.",
-        [LUFFA_SIZE] = "The text is too long: a record has 40 bytes.",
         [LUFFA_CLAIM] = "The digest that was given hasn't the length of this sheet's digests.",
         [LUFFA_STALE] = "The sheet has changed since it was opened.",
+        [LUFFA_BATCH] = "There are too many sheets: a statement takes 64.",
+        [LUFFA_STALE_TAIL] = "The sheet has changed since it was opened.",
+        [LUFFA_HOPS] = "There are too many hops: they are 0 to 3.",
+        [LUFFA_UNSOUND] = "The sheet isn't sound.",
+        [LUFFA_WELL] = "No record of the sheet has this number.",
     };
 
-    return answer < sizeof sentences / sizeof *sentences ? sentences[answer] : "An answer that luffa.h doesn't have.";
+    if (answer < sizeof sentences / sizeof *sentences && sentences[answer])
+        return sentences[answer];
+    return "An answer that this call shouldn't give: a fault of this program.";
 }
 
-void print_digest(const uint8_t *digest, size_t n)
+void print_digest(FILE *to, const uint8_t *digest, size_t n)
 {
-    printf("digest ");
+    fputs("digest ", to);
     for (size_t i = 0; i < n; i++)
-        printf("%02x", digest[i]);
-    putchar('\n');
+        fprintf(to, "%02x", digest[i]);
+    putc('\n', to);
 }
 
-void print_text(const uint8_t *text, size_t n)
+const char *many(uint64_t n)
 {
-    while (n > 0 && text[n - 1] == 0)
-        n--;
-    for (size_t i = 0; i < n; i++)
-        if (text[i] >= ' ' && text[i] <= '~' && text[i] != '\\')
-            putchar(text[i]);
-        else
-            printf("\\x%02x", text[i]);
+    return n == 1 ? "" : "s";
 }
 
 int printed(int status)

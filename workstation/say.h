@@ -4,12 +4,13 @@
 
 #include <stddef.h>
 #include <stdint.h>
+#include <stdio.h>
 
-/* Besides 0 and the numbers 1 to 11 of luffa.h. */
+/* Besides 0 and the numbers of luffa.h. */
 enum status {
     USAGE = 64,   /* the command line can't be understood */
-    DAMAGED = 65, /* the sheet or its log is damaged, and isn't used */
-    EXISTS = 73,  /* there is such a sheet already */
+    DAMAGED = 65, /* the sheet, its log or a CSV file can't be used, or the planner has said no */
+    EXISTS = 73,  /* there is such a sheet, or a kept text, already */
     FAILED = 74,  /* the system refused something: nothing was saved */
     UNSURE = 75   /* saved, but the system didn't confirm it or the answer couldn't be printed */
 };
@@ -32,10 +33,11 @@ void stop_failed(int status, const char *doing, const char *name);
 /* The sentence of an answer of luffa.h. */
 const char *sentence(uint64_t answer);
 
-void print_digest(const uint8_t *digest, size_t n);
+/* Prints the line `digest` and the digits of one. */
+void print_digest(FILE *to, const uint8_t *digest, size_t n);
 
-/* Prints a text up to the zeros that fill it up. What could upset a terminal is printed as \x and two digits. */
-void print_text(const uint8_t *text, size_t n);
+/* "s" where there isn't one of a thing. */
+const char *many(uint64_t n);
 
 /* Ends after a command that was done: with 0, or with `status` where its answer couldn't be printed. */
 int printed(int status);

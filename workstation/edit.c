@@ -1,0 +1,226 @@
+/* The functions of edit.h. */
+#define _POSIX_C_SOURCE 200809L
+#include "edit.h"
+#include "lay.h"
+#include "say.h"
+#include <errno.h>
+#include <fcntl.h>
+#include <signal.h>
+#include <stdlib.h>
+#include <string.h>
+#include <sys/wait.h>
+#include <unistd.h>
+
+static struct desk desk;
+static struct kept kept;
+static struct laid laid;
+
+/* The list that was opened, what the text makes of it, and the digits of its digest. */
+static struct list opened, mine;
+static char claimed[DIGITS_MOST];
+
+size_t text_read(uint8_t *text, const char *file)
+{
+    int fd = strcmp(file, "-") == 0 ? 0 : open(file, O_RDONLY | O_CLOEXEC);
+    ssize_t got = -1;
+
+    if (fd < 0 || (got = read_all(fd, text, CSV_MOST + 1)) < 0)
+        stop_failed(FAILED, "Can't read", file);
+    if (fd > 0)
+        close(fd);
+    return (size_t)got;
+}
+
+void say_at(const char *file, const struct csv_fault *fault)
+{
+    fflush(stdout);
+    fprintf(stderr, "plan: ");
+    text_put(stderr, file);
+    fprintf(stderr, ", line %zu, column %zu: %s.\n", fault->line, fault->column, fault->words);
+}
+
+void stop_at(const char *file, const struct csv_fault *fault)
+{
+    say_at(file, fault);
+    if (*closing)
+        fprintf(stderr, "plan:%s\n", closing);
+    exit(DAMAGED);
+}
+
+/* The first letter of the planner's answer; where there is none, as at the end of standard input, it is no. */
+static char ask(const char *question)
+{
+    char answer[64];
+
+    fflush(stderr);
+    printf("%s ", question);
+    fflush(stdout);
+    if (!fgets(answer, sizeof answer, stdin)) {
+        putchar('\n');
+        return 'n';
+    }
+    /* The rest of a long answer isn't the next one. */
+    while (!strchr(answer, '\n') && !feof(stdin) && getchar() != '\n')
+        ;
+    return (char)(answer[0] >= 'A' && answer[0] <= 'Z' ? answer[0] - 'A' + 'a' : answer[0]);
+}
+
+#if defined(__GNUC__)
+__attribute__((noreturn))
+#endif
+static void leave(int status)
+{
+    fflush(stdout);
+    fprintf(stderr, "Nothing was saved. ");
+    kept_say(&kept, &desk.store);
+    exit(status);
+}
+
+/* The editor is a line for the shell, as other programs take it: it may have arguments. Meanwhile a break from the
+   keyboard is the editor's. */
+static void run_editor(void)
+{
+    const char *editor = getenv("VISUAL");
+    char line[4096];
+    int status;
+    pid_t child;
+
+    if (!editor || !*editor)
+        editor = getenv("EDITOR");
+    if (!editor || !*editor)
+        editor = "vi";
+    if ((size_t)snprintf(line, sizeof line, "%s \"$1\"", editor) >= sizeof line)
+        stop(USAGE, "The editor's name is too long.");
+    fflush(stdout);
+    signal(SIGINT, SIG_IGN);
+    signal(SIGQUIT, SIG_IGN);
+    child = fork();
+    if (child == 0) {
+        signal(SIGINT, SIG_DFL);
+        signal(SIGQUIT, SIG_DFL);
+        signal(SIGPIPE, SIG_DFL);
+        execl("/bin/sh", "sh", "-c", line, "plan", kept.path, (char *)NULL);
+        _exit(127);
+    }
+    while (child > 0 && waitpid(child, &status, 0) < 0)
+        if (errno != EINTR)
+            child = -1;
+    signal(SIGINT, SIG_DFL);
+    signal(SIGQUIT, SIG_DFL);
+    if (child < 0 || !WIFEXITED(status) || WEXITSTATUS(status) != 0) {
+        fprintf(stderr, "plan: The editor ended with a failure: %s\n", editor);
+        leave(FAILED);
+    }
+}
+
+/* Reads the text. Gives 0 where it has a fault, which is said. `wanted` is what its first line has, or null. */
+static int read_text(char digits[DIGITS_MOST], const char *wanted)
+{
+    struct csv_fault fault = {.line = 1, .column = 1};
+
+    if (!kept_read(&kept, &desk.store))
+        stop(FAILED, "%s is gone. Nothing was saved.", kept.path);
+    if (csv_read(&mine, digits, kept.text, kept.len, &fault)) {
+        if (digits[0] && (!wanted || strcmp(digits, wanted) == 0))
+            return 1;
+        snprintf(fault.words, sizeof fault.words, "the first line is to be opened,%s", wanted ? wanted : "DIGEST");
+    }
+    say_at(kept.name, &fault);
+    return 0;
+}
+
+static void again_or_leave(void)
+{
+    if (ask("Edit it again? [y, or n to leave it]") != 'y')
+        leave(DAMAGED);
+    run_editor();
+}
+
+/* Edits until the text can be read, and the planner has seen what it changes and doesn't want to go back to it. */
+static void edit_text(void)
+{
+    char digits[DIGITS_MOST], words[WORDS_MOST], answer = 'e';
+
+    while (answer == 'e') {
+        run_editor();
+        while (!read_text(digits, claimed))
+            again_or_leave();
+        changes_print(stdout, &opened, &mine);
+        if (same_list(&opened, &mine) || (!fault_words(words, &mine) && laid.both_n == 0))
+            return;
+        fflush(stdout);
+        if (fault_words(words, &mine))
+            fprintf(stderr, "plan: Not sound: %s.\n", words);
+        if (laid.both_n > 0)
+            fprintf(stderr, "plan: Others have changed %zu of these records too.\n", laid.both_n);
+        answer = ask("Save it all the same? [y, n to leave it, e to edit it]");
+    }
+    if (answer != 'y')
+        leave(DAMAGED);
+}
+
+/* The sheet as it is now is what the planner sees: the text's first line has its digest. */
+static void open_text(const struct list *text)
+{
+    opened = desk.sheet.list;
+    digest_digits(claimed, &desk.sheet);
+    kept_from_list(&kept, text, claimed);
+    kept_write(&kept, &desk.store);
+}
+
+static void open_new(void)
+{
+    if (kept_read(&kept, &desk.store))
+        stop(EXISTS, "An earlier text of yours is kept in %s. Go on with it by --resume, or remove it.", kept.path);
+    open_text(&desk.sheet.list);
+}
+
+/* Lays the text that was kept over the sheet, and lists what both have touched. */
+static void open_kept(const struct claim *claim)
+{
+    if (!log_find(&desk.store, &desk.sheet, claim->bytes, &opened))
+        stop(DAMAGED, "%s was opened from a sheet that %s doesn't know.", kept.path, desk.store.log_name);
+    if (!lay(&laid, &opened, &mine, &desk.sheet.list))
+        stop(LUFFA_FULL, "Over the sheet as it is now the text has more than %d records. Take some out of %s.",
+             LUFFA_SHEET_MOST, kept.path);
+    if (laid.both_n > 0)
+        printf("Both have touched these. Yours stands in the text; look before you save it.\n");
+    lay_print(stdout, &laid);
+    open_text(&laid.list);
+}
+
+int edit(const char *file, const char *who, int resume)
+{
+    static struct steps steps;
+    char digits[DIGITS_MOST];
+    struct claim claim;
+
+    store_find(&desk.store, file);
+    kept_find(&kept, &desk.store, who);
+    if (resume) {
+        if (!kept_read(&kept, &desk.store))
+            stop(FAILED, "No text of yours is kept in %s.", kept.path);
+        while (!read_text(digits, NULL))
+            again_or_leave();
+        claim_read(&claim, digits);
+    }
+    desk_open(&desk);
+    if (resume)
+        open_kept(&claim);
+    else
+        open_new();
+    desk_leave(&desk);
+
+    edit_text();
+    if (same_list(&opened, &mine)) {
+        kept_remove(&kept, &desk.store);
+        printf("nothing was changed\n");
+        return printed(FAILED);
+    }
+    claim_read(&claim, claimed);
+    desk_open(&desk);
+    steps_between(&steps, &desk.sheet.list, &mine);
+    desk_save(&desk, &steps, &claim, who, &kept);
+    kept_remove(&kept, &desk.store);
+    return desk_answer(&desk);
+}

@@ -1,0 +1,82 @@
+/* The functions of kept.h. */
+#define _POSIX_C_SOURCE 200809L
+#include "kept.h"
+#include "say.h"
+#include "text.h"
+#include <errno.h>
+#include <fcntl.h>
+#include <stdio.h>
+#include <string.h>
+#include <unistd.h>
+
+/* Letters, digits, dot, dash and underscore stand for themselves, every other byte as % and two digits: so two planners
+   never have one file. */
+void kept_find(struct kept *kept, const struct store *store, const char *who)
+{
+    char encoded[3 * 24 + 1] = "", *to = encoded;
+
+    kept->who = who;
+    for (; *who && to < encoded + 3 * 24; who++)
+        if ((*who >= 'a' && *who <= 'z') || (*who >= 'A' && *who <= 'Z') || (*who >= '0' && *who <= '9') ||
+            strchr("-_.", *who))
+            *to++ = *who;
+        else
+            to += sprintf(to, "%%%02x", (unsigned)(uint8_t)*who);
+    *to = 0;
+    if (strlen(store->name) + strlen(encoded) + 5 > NAME_MAX)
+        stop(USAGE, "%s: the name is too long for a text beside it.", store->name);
+    snprintf(kept->name, sizeof kept->name, "%.*s~%s.csv", NAME_MAX - 80, store->name, encoded);
+    snprintf(kept->path, sizeof kept->path, "%s/%s", store->folder, kept->name);
+}
+
+int kept_read(struct kept *kept, const struct store *store)
+{
+    int fd = openat(store->directory, kept->name, O_RDONLY | O_CLOEXEC);
+    ssize_t got;
+
+    if (fd < 0 && errno == ENOENT)
+        return 0;
+    /* One byte more than a text may have, so that a longer one is seen to be one. */
+    if (fd < 0 || (got = read_all(fd, kept->text, sizeof kept->text)) < 0)
+        stop_failed(FAILED, "Can't read", kept->path);
+    close(fd);
+    kept->len = (size_t)got;
+    return 1;
+}
+
+void kept_write(const struct kept *kept, const struct store *store)
+{
+    store_put(store, kept->name, 0, kept->text, kept->len);
+}
+
+void kept_remove(const struct kept *kept, const struct store *store)
+{
+    unlinkat(store->directory, kept->name, 0);
+}
+
+void kept_from_list(struct kept *kept, const struct list *list, const char *opened)
+{
+    kept->len = csv_write(kept->text, list, opened);
+}
+
+void kept_from_text(struct kept *kept, const uint8_t *text, size_t len, const char *opened)
+{
+    kept->len = 0;
+    if (len < 7 || memcmp(text, "opened,", 7) != 0)
+        kept->len = (size_t)sprintf((char *)kept->text, "opened,%s\n", opened);
+    if (len > sizeof kept->text - kept->len)
+        len = sizeof kept->text - kept->len;
+    memcpy(kept->text + kept->len, text, len);
+    kept->len += len;
+}
+
+void kept_say(const struct kept *kept, const struct store *store)
+{
+    fprintf(stderr, "Your text is kept beside the sheet, in ");
+    text_put(stderr, kept->name);
+    fprintf(stderr, ". Lay it over the sheet as it is now:\n  plan edit ");
+    text_put(stderr, store->given);
+    fprintf(stderr, " --resume --as ");
+    text_put(stderr, kept->who);
+    putc('\n', stderr);
+}

@@ -1,0 +1,37 @@
+/*
+ * The text of a planner who is editing a sheet, beside the sheet: NAME~WHO.csv. It is there from the moment the sheet is
+ * opened for editing until its save is accepted, so whatever comes between, the evening's work can be gone on with. Its
+ * first line has the digest of the sheet that was opened (csv.h): text and digest are one file, and never disagree.
+ */
+#ifndef KEPT_H
+#define KEPT_H
+
+#include "csv.h"
+#include "store.h"
+
+struct kept {
+    const char *who;
+    char name[NAME_MAX + 1], path[PATH_MAX + NAME_MAX + 2];
+    uint8_t text[CSV_MOST + 1];
+    size_t len;
+};
+
+/* Each of these ends the program with a message where it can't be done. */
+
+/* Names the text of a planner. */
+void kept_find(struct kept *kept, const struct store *store, const char *who);
+
+/* Reads it, or gives 0 where there is none; writes it whole, under the lock; removes it. */
+int kept_read(struct kept *kept, const struct store *store);
+void kept_write(const struct kept *kept, const struct store *store);
+void kept_remove(const struct kept *kept, const struct store *store);
+
+/* Makes it the text of a list that was opened under a digest; or, as it stands, another text that has no first line of
+   this kind, or has this one. */
+void kept_from_list(struct kept *kept, const struct list *list, const char *opened);
+void kept_from_text(struct kept *kept, const uint8_t *text, size_t len, const char *opened);
+
+/* Says where it is, and how to go on with it. */
+void kept_say(const struct kept *kept, const struct store *store);
+
+#endif

@@ -1,0 +1,101 @@
+/* The style sheet of the page that page.c writes, a line a string. It names nothing outside the page. */
+#ifndef PAGE_STYLE_H
+#define PAGE_STYLE_H
+
+static const char *const page_style[] = {
+    ":root { color-scheme: light dark; --ground: #fff; --ink: #1a232c; --soft: #52606d; --rule: #d3dae0;",
+    "  --intake: #2563a6; --room: #e8edf2; --edge: #5b6875; --over: #b42318 }",
+    "@media screen and (prefers-color-scheme: dark) {",
+    "  :root { --ground: #12171d; --ink: #e7ebef; --soft: #a5b0bb; --rule: #35404b;",
+    "    --intake: #4c94dc; --room: #232c36; --edge: #93a0ad; --over: #ff8b7d }",
+    "}",
+    "* { box-sizing: border-box }",
+    "body { margin: 0; background: var(--ground); color: var(--ink); font: 1rem/1.45 system-ui, sans-serif;",
+    "  font-variant-numeric: tabular-nums; -webkit-text-size-adjust: 100%; text-size-adjust: 100% }",
+    "main { max-width: 60rem; margin: 0 auto; padding: 2rem 1.25rem 3rem }",
+    "h1 { margin: 0; font-size: 1.75rem; line-height: 1.2 }",
+    "h2 { margin: 2.25rem 0 .25rem; font-size: 1.2rem; line-height: 1.3 }",
+    "p { margin: 0 }",
+    ".when, .about, .key, caption, th[scope=col], dt { color: var(--soft) }",
+    ".about, .key, caption { font-size: .875rem }",
+    "bdi { white-space: pre-wrap; overflow-wrap: anywhere }",
+
+    /* The summary: four figures, each with its words, in one line or two. */
+    ".summary { display: flex; flex-wrap: wrap; gap: .75rem 1.5rem; margin: 1.5rem 0 0 }",
+    ".summary div { flex: 1 1 8.5rem; display: flex; flex-direction: column; justify-content: space-between;",
+    "  border-top: 3px solid var(--rule); padding-top: .5rem }",
+    ".summary dt { font-size: .875rem }",
+    ".summary dd { margin: 0; font-size: 1.6rem; font-weight: 600; line-height: 1.25; white-space: nowrap }",
+    ".summary .alarm { border-color: var(--over) }",
+    ".summary .alarm dt, .summary .alarm dd { color: var(--over) }",
+
+    ".faults { list-style: none; margin: .5rem 0 0; padding: 0 }",
+    ".faults li { border-left: 3px solid var(--over); padding: .25rem 0 .25rem .75rem; margin-top: .5rem }",
+    ".faults .name, th .name, .number { font-weight: 600 }",
+
+    ".key { display: flex; flex-wrap: wrap; gap: .15rem .9rem; margin-top: .35rem }",
+    ".key span { white-space: nowrap }",
+    ".key svg { display: inline-block; width: 1.6rem; vertical-align: -.25em; margin-right: .15rem }",
+    "table { width: 100%; border-collapse: collapse; margin-top: .35rem }",
+    "caption { text-align: left; padding-bottom: .5rem }",
+    "th, td { padding: .5rem .6rem; text-align: left; vertical-align: top; border-bottom: 1px solid var(--rule);",
+    "  font-weight: 400 }",
+    "th:first-child, td:first-child { padding-left: 0 }",
+    "th:last-child, td:last-child { padding-right: 0 }",
+    "th[scope=col] { font-size: .875rem; vertical-align: bottom; border-bottom: 2px solid var(--edge) }",
+    "th[scope=row] { width: 14% }",
+    "#sheets th[scope=row] { width: 24% }",
+    ".sheet { width: 18% }",
+    ".note { display: block; font-size: .875rem; color: var(--soft) }",
+    ".figure { text-align: right; white-space: nowrap }",
+    ".overloaded .state, .overloaded [data-label=Spare], .faulted .state { color: var(--over); font-weight: 700 }",
+    ".faulted .words { font-weight: 400 }",
+    "td.load { width: 24%; padding-right: 1px }",
+    ".digest { width: 36%; font: .75rem/1.4 ui-monospace, monospace; overflow-wrap: anywhere }",
+
+    /* The bars. The hatch tells what is over the capacity in black and white too. */
+    "svg { display: block; width: 100%; height: 22px; overflow: visible }",
+    ".hatch { position: absolute; width: 0; height: 0 }",
+    ".capacity { fill: var(--room); stroke: var(--edge) }",
+    ".intake { fill: var(--intake) }",
+    ".over { fill: url(#hatch); stroke: var(--over) }",
+    ".under { fill: var(--ground) }",
+    ".stripe { stroke: var(--over); stroke-width: 3 }",
+    ".tick { stroke: var(--ink); stroke-width: 2 }",
+
+    /* On a small screen the type is smaller. */
+    "@media screen and (max-width: 58rem) { table { font-size: .875rem } }",
+    /* Where there is no room for a table, a row is a block, and its cells say what they are. */
+    "@media screen and (max-width: 45rem) {",
+    "  main { padding: 1.25rem 1rem 2rem }",
+    "  table { font-size: 1rem }",
+    "  table, tbody, caption, th, td { display: block }",
+    "  thead { position: absolute; width: 1px; height: 1px; overflow: hidden; clip-path: inset(50%) }",
+    "  tr { display: grid; grid-template-columns: 1fr auto; gap: .2rem 1rem; padding: .8rem 0;",
+    "    border-bottom: 1px solid var(--rule) }",
+    "  tbody tr:first-child { border-top: 2px solid var(--edge) }",
+    "  tbody th, tbody td { padding: 0; border: 0; grid-column: 1 / -1 }",
+    "  th[scope=row], #sheets th[scope=row], .sheet, td.load, .digest { width: auto }",
+    "  th[scope=row], .state { grid-area: 1 / 1 }",
+    "  .state { grid-column: 2 }",
+    "  .fault { grid-area: 2 / 1 / auto / -1 }",
+    "  .load { grid-row: 3 }",
+    "  .figure { display: flex; justify-content: space-between; align-items: baseline }",
+    "  [data-label]::before { content: attr(data-label) ' '; color: var(--soft); font: .875rem system-ui, sans-serif }",
+    "}",
+
+    /* Paper. A row stays whole, and the heads of the columns stand on each page. */
+    "@page { size: A4; margin: 14mm 14mm 18mm;",
+    "  @bottom-right { content: counter(page) ' / ' counter(pages); font: 8pt system-ui, sans-serif; color: #52606d }",
+    "}",
+    "@media print {",
+    "  :root { color-scheme: light; font-size: 9.5pt; print-color-adjust: exact; -webkit-print-color-adjust: exact }",
+    "  main { max-width: none; padding: 0 }",
+    "  thead { display: table-header-group }",
+    "  tr, li, .summary { break-inside: avoid }",
+    "  h1, h2, .about, .key, caption { break-after: avoid }",
+    "  th, td { padding: .3rem .5rem }",
+    "}",
+};
+
+#endif
