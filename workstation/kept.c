@@ -23,9 +23,8 @@ void kept_find(struct kept *kept, const struct store *store, const char *who)
         else
             to += sprintf(to, "%%%02x", (unsigned)(uint8_t)*who);
     *to = 0;
-    if (strlen(store->name) + strlen(encoded) + 5 > NAME_MAX)
+    if ((size_t)snprintf(kept->name, sizeof kept->name, "%s~%s.csv", store->name, encoded) >= sizeof kept->name)
         stop(USAGE, "%s: the name is too long for a text beside it.", store->name);
-    snprintf(kept->name, sizeof kept->name, "%.*s~%s.csv", NAME_MAX - 80, store->name, encoded);
     snprintf(kept->path, sizeof kept->path, "%s/%s", store->folder, kept->name);
 }
 
@@ -36,7 +35,7 @@ int kept_read(struct kept *kept, const struct store *store)
 
     if (fd < 0 && errno == ENOENT)
         return 0;
-    /* One byte more than a text may have, so that a longer one is seen to be one. */
+    /* More than a text may have is read, so that a longer one is seen to be one. */
     if (fd < 0 || (got = read_all(fd, kept->text, sizeof kept->text)) < 0)
         stop_failed(FAILED, "Can't read", kept->path);
     close(fd);
@@ -61,11 +60,15 @@ void kept_from_list(struct kept *kept, const struct list *list, const char *open
 
 void kept_from_text(struct kept *kept, const uint8_t *text, size_t len, const char *opened)
 {
+    static const uint8_t mark[] = {0xef, 0xbb, 0xbf}; /* which a first line would stand before */
+
     kept->len = 0;
+    if (len >= sizeof mark && memcmp(text, mark, sizeof mark) == 0) {
+        text += sizeof mark;
+        len -= sizeof mark;
+    }
     if (len < 7 || memcmp(text, "opened,", 7) != 0)
         kept->len = (size_t)sprintf((char *)kept->text, "opened,%s\n", opened);
-    if (len > sizeof kept->text - kept->len)
-        len = sizeof kept->text - kept->len;
     memcpy(kept->text + kept->len, text, len);
     kept->len += len;
 }

@@ -12,7 +12,7 @@
 struct kept {
     const char *who;
     char name[NAME_MAX + 1], path[PATH_MAX + NAME_MAX + 2];
-    uint8_t text[CSV_MOST + 1];
+    uint8_t text[CSV_MOST + DIGITS_MOST + 16]; /* room for the first line before any text */
     size_t len;
 };
 
@@ -26,8 +26,8 @@ int kept_read(struct kept *kept, const struct store *store);
 void kept_write(const struct kept *kept, const struct store *store);
 void kept_remove(const struct kept *kept, const struct store *store);
 
-/* Makes it the text of a list that was opened under a digest; or, as it stands, another text that has no first line of
-   this kind, or has this one. */
+/* Makes it the text of a list that was opened under a digest; or, as it stands, another text of CSV_MOST bytes at most
+   that has no first line of this kind, or has this one. */
 void kept_from_list(struct kept *kept, const struct list *list, const char *opened);
 void kept_from_text(struct kept *kept, const uint8_t *text, size_t len, const char *opened);
 

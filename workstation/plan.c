@@ -97,8 +97,8 @@ static void make_empty(int to_be_filled)
     struct stat about;
 
     store_lock(&desk.store);
+    store_clean(&desk.store);
     if (fstatat(desk.store.directory, desk.store.name, &about, AT_SYMLINK_NOFOLLOW) != 0) {
-        store_clean(&desk.store);
         log_new(&desk.store);
         store_replace(&desk.store, sheet);
         return;
@@ -280,14 +280,31 @@ static const char *when(void)
     return text;
 }
 
-/* The page takes its name when it is whole. */
+/* A page is written over a page, and over no other file: least of all over a sheet. */
+static void check_page(const char *file)
+{
+    static const char begin[] = "<!DOCTYPE html>";
+    char found[sizeof begin] = "";
+    FILE *there = fopen(file, "r");
+    size_t n = there ? fread(found, 1, sizeof begin - 1, there) : 0;
+
+    if (there)
+        fclose(there);
+    if (n > 0 && strcmp(found, begin) != 0)
+        stop(EXISTS, "%s is there, and is no page: it isn't written over.", file);
+}
+
+/* The page takes its name when it is whole; what is no file, as a terminal, is written to. */
 static void write_page(const struct brine *brine, const char *file)
 {
     char part[PATH_MAX];
+    struct stat about;
+    int whole = stat(file, &about) != 0 || S_ISREG(about.st_mode), failed;
     FILE *to;
-    int failed;
 
-    if ((size_t)snprintf(part, sizeof part, "%s~%ld", file, (long)getpid()) >= sizeof part)
+    if (whole)
+        check_page(file);
+    if ((size_t)snprintf(part, sizeof part, whole ? "%s~%ld" : "%s", file, (long)getpid()) >= sizeof part)
         stop(USAGE, "%s: the name is too long.", file);
     to = fopen(part, "w");
     if (!to)
@@ -295,10 +312,12 @@ static void write_page(const struct brine *brine, const char *file)
     brine_page(to, brine, when());
     failed = ferror(to);
     failed = fclose(to) != 0 || failed;
-    if (failed || rename(part, file) != 0) {
+    if (!failed && whole)
+        failed = rename(part, file) != 0;
+    if (failed && whole)
         unlink(part);
+    if (failed)
         stop_failed(FAILED, "Can't write", file);
-    }
 }
 
 static int run_brine(void)

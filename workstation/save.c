@@ -155,7 +155,8 @@ static int keep(const struct store *store, const struct kept *own)
     return 1;
 }
 
-/* The sheet that a stale planner opened is the one that had the claimed digest, which the log has. */
+/* The sheet that a stale planner opened is the one that had the claimed digest, which the log has. The entries that count
+   stand there for good, so the others needn't wait while it is looked for. */
 #if defined(__GNUC__)
 __attribute__((noreturn))
 #endif
@@ -165,12 +166,12 @@ static void turn_away(struct desk *desk, const struct claim *claim, const struct
     struct luffa_sheet_where where = {.number = LUFFA_STALE};
     int known, is_kept;
 
+    is_kept = own && keep(&desk->store, own);
+    store_unlock(&desk->store);
     opened.code = desk->sheet.code;
     known = log_find(&desk->store, &desk->sheet, claim->bytes, &opened.list);
     if (known && sheet_build(&opened) == LUFFA_DONE)
         where = differ(&desk->sheet, &opened, claim);
-    is_kept = own && keep(&desk->store, own);
-    store_unlock(&desk->store);
 
     say_refused(where.number);
     if (known)
