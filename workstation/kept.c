@@ -43,9 +43,12 @@ int kept_read(struct kept *kept, const struct store *store)
     return 1;
 }
 
+/* Its name is on the disk too before the planner is told of it. */
 void kept_write(const struct kept *kept, const struct store *store)
 {
     store_put(store, kept->name, 0, kept->text, kept->len);
+    if (fsync(store->directory) != 0)
+        stop_failed(FAILED, "Can't be sure of", kept->path);
 }
 
 void kept_remove(const struct kept *kept, const struct store *store)

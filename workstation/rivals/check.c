@@ -143,7 +143,7 @@ static const struct attempt *attempt_of(const char *who, const struct shared *sh
     long k;
 
     if (sscanf(who, "r%d.%ld", &r, &k) != 2 || r < 0 || r > rivals || k < 0 || k >= shared->rivals[r].attempts)
-        return wrong("a save is by %s, whom the trial doesn't know", who), NULL;
+        return wrong("a save is by \"%s\", whom the trial doesn't know", who), NULL;
     if (seen[r][k]++)
         return wrong("%s was accepted twice", who), NULL;
     return &shared->rivals[r].attempt[k];
