@@ -222,15 +222,21 @@ static int run_strike(void)
     return desk_answer(&desk);
 }
 
-/* A closed-up sheet is as sound as it was, so there is no fault to tell. */
 static int run_close_up(void)
 {
+    static struct list list;
     struct claim claim;
     const char *name = who();
     size_t before;
 
+    closing = " Nothing was saved.";
     claim_read(&claim, arguments[1]);
     store_find(&desk.store, arguments[0]);
+    store_read(&desk.store, &desk.sheet, NULL);
+    list = desk.sheet.list;
+    steps_close_up(&steps, &list);
+    if (claims(&claim, &desk.sheet) && steps.n > 0 && steps_fold(&list, &steps))
+        say_fault(&list);
     desk_open(&desk);
     before = desk.sheet.list.n;
     steps_close_up(&steps, &desk.sheet.list);
