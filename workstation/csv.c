@@ -248,36 +248,47 @@ static int read_well(const struct reading *from, struct cell *cells, uint8_t *re
     return 1;
 }
 
-/* `opened,DIGEST`, where there is such a line. */
-static int read_opened(struct reading *from, char opened[DIGITS_MOST])
+/* The line `opened`, where there is one. A spreadsheet fills it up with empty cells. */
+static int read_opened(struct reading *from, char opened[OPENED_MOST])
 {
-    struct cell cells[2];
-    size_t len;
+    struct cell cell;
 
     opened[0] = 0;
     if (from->end - from->at < 7 || memcmp(from->at, "opened,", 7) != 0)
         return 1;
-    if (!read_line(from, cells, 2))
+    if (!read_cell(from, &cell))
         return 0;
-    len = cells[1].len;
-    if (len == 0 || len % 2 != 0 || len >= DIGITS_MOST || strspn(cells[1].text, "0123456789abcdef") != len)
-        return wrong(from, cells[1].line, cells[1].column, "the digest of the sheet that was opened is wanted");
-    memcpy(opened, cells[1].text, len + 1);
+    for (size_t i = 1; !line_ends(from); i++) {
+        next(from);
+        if (!read_cell(from, &cell))
+            return 0;
+        if (cell.len == 0 && i > 1)
+            continue;
+        if (i > 2 || cell.len == 0 || cell.len % 2 != 0 || cell.len >= DIGITS_MOST ||
+            strspn(cell.text, "0123456789abcdef") != cell.len)
+            return wrong(from, cell.line, cell.column, "the digest of the sheet that was opened is wanted");
+        if (i == 2)
+            strcat(opened, ",");
+        strcat(opened, cell.text);
+    }
+    end_line(from);
     return 1;
 }
 
-int csv_read(struct list *list, char opened[DIGITS_MOST], const uint8_t *text, size_t len, struct csv_fault *fault)
+int csv_read(struct list *list, char opened[OPENED_MOST], const uint8_t *text, size_t len, struct csv_fault *fault)
 {
     static const uint8_t mark[] = {0xef, 0xbb, 0xbf}; /* that some programs begin a text in UTF-8 with */
     static struct cell cells[CELLS];
     struct reading from = {.at = text, .end = text + len, .line = 1, .column = 1, .fault = fault};
 
     memset(list, 0, sizeof *list);
-    if (len > CSV_MOST)
-        return wrong(&from, 1, 1, "the file has more than %d bytes", CSV_MOST);
     if (len >= sizeof mark && memcmp(text, mark, sizeof mark) == 0)
         from.at += sizeof mark;
-    if (!read_opened(&from, opened) || !read_line(&from, cells, CELLS))
+    if (!read_opened(&from, opened))
+        return 0;
+    if (from.end - from.at > CSV_MOST)
+        return wrong(&from, 1, 1, "the file has more than %d bytes", CSV_MOST);
+    if (!read_line(&from, cells, CELLS))
         return 0;
     for (size_t i = 0; i < CELLS; i++) {
         trim(&cells[i]);

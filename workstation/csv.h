@@ -18,29 +18,32 @@
  * Every list of records has one such file, and reading it gives the same bytes; whether the wells make sense isn't
  * asked here. Read, but never written: the mark that some programs begin UTF-8 with, lines that end in CR and LF, blank
  * lines, a last line without its end, spaces around everything but a note, words in capitals, quotes that aren't needed,
- * and `bytes` for any record. A text that a planner is editing has a line `opened,DIGEST` before the header: the digest of the sheet
- * that the text was made from.
+ * and `bytes` for any record.
+ *
+ * A text that a planner is editing has a line before the header: `opened,DIGEST`, the digest of the sheet that it was made
+ * from, or `opened,DIGEST,FIRST` where it was laid over a newer sheet since, FIRST being that of the sheet first opened.
  */
 #ifndef CSV_H
 #define CSV_H
 
 #include "sheet.h"
 
-/* No list has a longer file than half of this; a longer text isn't read. */
+/* No list has a longer file than half of this; a text that is longer after its line `opened` isn't read. */
 #define CSV_MOST (512 * 1024)
 
-/* The digits of a digest, and the zero that ends them. */
+/* The digits of a digest, and the zero that ends them; and what the line `opened` has after its first comma. */
 #define DIGITS_MOST (2 * DIGEST_MOST + 1)
+#define OPENED_MOST (2 * DIGITS_MOST)
 
 /* Lines and columns are counted from 1, columns in characters. */
 struct csv_fault {
     size_t line, column;
-    char words[256];
+    char words[OPENED_MOST + 64];
 };
 
-/* Reads a text. `opened` is the digest of its first line, or empty. Gives 1, or 0 with the first fault; then list and
-   opened aren't to be used. */
-int csv_read(struct list *list, char opened[DIGITS_MOST], const uint8_t *text, size_t len, struct csv_fault *fault);
+/* Reads a text. `opened` is what its line `opened` has, one digest or two with a comma between, or empty. Gives 1, or 0
+   with the first fault; then list and opened aren't to be used. */
+int csv_read(struct list *list, char opened[OPENED_MOST], const uint8_t *text, size_t len, struct csv_fault *fault);
 
 /* Writes the text of a list, with its line `opened` where that isn't empty. Gives its length. */
 size_t csv_write(uint8_t text[CSV_MOST], const struct list *list, const char *opened);

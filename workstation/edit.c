@@ -15,9 +15,9 @@ static struct desk desk;
 static struct kept kept;
 static struct laid laid;
 
-/* The list that was opened, what the text makes of it, and the digits of its digest. */
+/* The list that was opened, what the text makes of it, and the line `opened` of the text without its first cell. */
 static struct list opened, mine;
-static char claimed[DIGITS_MOST];
+static char line_opened[OPENED_MOST];
 
 size_t text_read(uint8_t *text, const char *file)
 {
@@ -81,6 +81,7 @@ static void leave(int status)
 static void run_editor(void)
 {
     const char *editor = getenv("VISUAL");
+    void (*on_break)(int), (*on_quit)(int);
     char line[4096];
     int status;
     pid_t child;
@@ -92,12 +93,12 @@ static void run_editor(void)
     if ((size_t)snprintf(line, sizeof line, "%s \"$1\"", editor) >= sizeof line)
         stop(USAGE, "The editor's name is too long.");
     fflush(stdout);
-    signal(SIGINT, SIG_IGN);
-    signal(SIGQUIT, SIG_IGN);
+    on_break = signal(SIGINT, SIG_IGN);
+    on_quit = signal(SIGQUIT, SIG_IGN);
     child = fork();
     if (child == 0) {
-        signal(SIGINT, SIG_DFL);
-        signal(SIGQUIT, SIG_DFL);
+        signal(SIGINT, on_break);
+        signal(SIGQUIT, on_quit);
         signal(SIGPIPE, SIG_DFL);
         execl("/bin/sh", "sh", "-c", line, "plan", kept.path, (char *)NULL);
         _exit(127);
@@ -105,23 +106,23 @@ static void run_editor(void)
     while (child > 0 && waitpid(child, &status, 0) < 0)
         if (errno != EINTR)
             child = -1;
-    signal(SIGINT, SIG_DFL);
-    signal(SIGQUIT, SIG_DFL);
+    signal(SIGINT, on_break);
+    signal(SIGQUIT, on_quit);
     if (child < 0 || !WIFEXITED(status) || WEXITSTATUS(status) != 0) {
         fprintf(stderr, "plan: The editor ended with a failure: %s\n", editor);
         leave(FAILED);
     }
 }
 
-/* Reads the text. Gives 0 where it has a fault, which is said. `wanted` is what its first line has, or null. */
-static int read_text(char digits[DIGITS_MOST], const char *wanted)
+/* Reads the text. Gives 0 where it has a fault, which is said. `wanted` is what its line `opened` has, or null. */
+static int read_text(char said[OPENED_MOST], const char *wanted)
 {
     struct csv_fault fault = {.line = 1, .column = 1};
 
     if (!kept_read(&kept, &desk.store))
-        stop(FAILED, "%s is gone. Nothing was saved.", kept.path);
-    if (csv_read(&mine, digits, kept.text, kept.len, &fault)) {
-        if (digits[0] && (!wanted || strcmp(digits, wanted) == 0))
+        stop(FAILED, "%s is gone.", kept.path);
+    if (csv_read(&mine, said, kept.text, kept.len, &fault)) {
+        if (said[0] && (!wanted || strcmp(said, wanted) == 0))
             return 1;
         snprintf(fault.words, sizeof fault.words, "the first line is to be opened,%s", wanted ? wanted : "DIGEST");
     }
@@ -139,11 +140,11 @@ static void again_or_leave(void)
 /* Edits until the text can be read, and the planner has seen what it changes and doesn't want to go back to it. */
 static void edit_text(void)
 {
-    char digits[DIGITS_MOST], words[WORDS_MOST], answer = 'e';
+    char said[OPENED_MOST], words[WORDS_MOST], answer = 'e';
 
     while (answer == 'e') {
         run_editor();
-        while (!read_text(digits, claimed))
+        while (!read_text(said, line_opened))
             again_or_leave();
         changes_print(stdout, &opened, &mine);
         if (same_list(&opened, &mine) || (!fault_words(words, &mine) && laid.both_n == 0))
@@ -159,57 +160,94 @@ static void edit_text(void)
         leave(DAMAGED);
 }
 
-/* The sheet as it is now is what the planner sees: the text's first line has its digest. */
-static void open_text(const struct list *text)
+/* Writes the text under the digest of the sheet as it is now, which is what the planner sees, and under that of the sheet
+   first opened, where it is another. */
+static void write_text(const struct list *text, const char *first)
 {
-    opened = desk.sheet.list;
-    digest_digits(claimed, &desk.sheet);
-    kept_from_list(&kept, text, claimed);
-    kept_write(&kept, &desk.store);
+    digest_digits(line_opened, &desk.sheet);
+    if (first[0] && strcmp(first, line_opened) != 0) {
+        strcat(line_opened, ",");
+        strcat(line_opened, first);
+    }
+    kept_from_list(&kept, text, line_opened);
+    if (!kept_write(&kept, &desk.store))
+        stop_failed(FAILED, "Can't write", kept.path);
 }
 
 static void open_new(void)
 {
     if (kept_read(&kept, &desk.store))
         stop(EXISTS, "An earlier text of yours is kept in %s. Go on with it by --resume, or remove it.", kept.path);
-    open_text(&desk.sheet.list);
+    write_text(&desk.sheet.list, "");
 }
 
-/* Lays the text that was kept over the sheet, and lists what both have touched. */
-static void open_kept(const struct claim *claim)
+/* The list that the sheet had under a digest. */
+static void find_opened(struct list *list, const char *digits)
 {
-    if (!log_find(&desk.store, &desk.sheet, claim->bytes, &opened))
+    struct claim claim;
+
+    claim_read(&claim, digits);
+    if (!log_find(&desk.store, &desk.sheet, claim.bytes, list))
         stop(DAMAGED, "%s was opened from a sheet that %s doesn't know.", kept.path, desk.store.log_name);
+}
+
+/* Lays the text that was kept over the sheet. What both have touched since it was first opened is what the planner is to
+   look at, also where an earlier laying has listed it already. */
+static void open_kept(const char *said)
+{
+    static struct list first_list;
+    static struct laid since_first;
+    char digits[DIGITS_MOST] = "";
+    const char *first = strchr(said, ',') ? strchr(said, ',') + 1 : said;
+
+    strncat(digits, said, strcspn(said, ","));
+    find_opened(&opened, digits);
+    find_opened(&first_list, first);
     if (!lay(&laid, &opened, &mine, &desk.sheet.list))
         stop(LUFFA_FULL, "Over the sheet as it is now the text has more than %d records. Take some out of %s.",
              LUFFA_SHEET_MOST, kept.path);
-    if (laid.both_n > 0)
-        printf("Both have touched these. Yours stands in the text; look before you save it.\n");
-    lay_print(stdout, &laid);
-    open_text(&laid.list);
+    if (lay(&since_first, &first_list, &laid.list, &desk.sheet.list))
+        lay_add(&laid, &since_first);
+    /* Where nothing of the text is left to save, and not because others have saved the same, it stays as it is. */
+    if (laid.both_n == 0 || !same_list(&laid.list, &desk.sheet.list))
+        write_text(&laid.list, first);
+}
+
+/* Reads the text that was kept until it can be read; meanwhile nobody else has to wait. */
+static void read_kept(char said[OPENED_MOST])
+{
+    if (!kept_read(&kept, &desk.store))
+        stop(FAILED, "No text of yours is kept in %s.", kept.path);
+    while (!read_text(said, NULL))
+        again_or_leave();
 }
 
 int edit(const char *file, const char *who, int resume)
 {
     static struct steps steps;
-    char digits[DIGITS_MOST];
+    char said[OPENED_MOST];
     struct claim claim;
 
     store_find(&desk.store, file);
     kept_find(&kept, &desk.store, who);
-    if (resume) {
-        if (!kept_read(&kept, &desk.store))
-            stop(FAILED, "No text of yours is kept in %s.", kept.path);
-        while (!read_text(digits, NULL))
-            again_or_leave();
-        claim_read(&claim, digits);
-    }
+    closing = " Nothing was saved.";
+    if (!store_hold_text(&desk.store, who))
+        stop(EXISTS, "%s is being edited already.", kept.path);
+    if (resume)
+        read_kept(said);
     desk_open(&desk);
     if (resume)
-        open_kept(&claim);
+        open_kept(said);
     else
         open_new();
     desk_leave(&desk);
+    if (laid.both_n > 0)
+        printf("Both have touched these. Yours stands in the text; look before you save it.\n");
+    lay_print(stdout, &laid);
+    if (laid.both_n > 0 && same_list(&laid.list, &desk.sheet.list))
+        leave(DAMAGED);
+    /* Only now, as what both have touched may stand in the list that was opened before. */
+    opened = desk.sheet.list;
 
     edit_text();
     if (same_list(&opened, &mine)) {
@@ -217,7 +255,8 @@ int edit(const char *file, const char *who, int resume)
         printf("nothing was changed\n");
         return printed(FAILED);
     }
-    claim_read(&claim, claimed);
+    line_opened[strcspn(line_opened, ",")] = 0;
+    claim_read(&claim, line_opened);
     desk_open(&desk);
     steps_between(&steps, &desk.sheet.list, &mine);
     desk_save(&desk, &steps, &claim, who, &kept);

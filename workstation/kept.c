@@ -30,30 +30,45 @@ void kept_find(struct kept *kept, const struct store *store, const char *who)
 
 int kept_read(struct kept *kept, const struct store *store)
 {
-    int fd = openat(store->directory, kept->name, O_RDONLY | O_CLOEXEC);
+    /* What is no file, as a pipe, isn't waited for. */
+    int fd = openat(store->directory, kept->name, O_RDONLY | O_CLOEXEC | O_NONBLOCK);
     ssize_t got;
 
     if (fd < 0 && errno == ENOENT)
         return 0;
     /* More than a text may have is read, so that a longer one is seen to be one. */
     if (fd < 0 || (got = read_all(fd, kept->text, sizeof kept->text)) < 0)
-        stop_failed(FAILED, "Can't read", kept->path);
+        stop_failed(FAILED, "Can't read", kept->name);
     close(fd);
     kept->len = (size_t)got;
     return 1;
 }
 
 /* Its name is on the disk too before the planner is told of it. */
-void kept_write(const struct kept *kept, const struct store *store)
+int kept_write(const struct kept *kept, const struct store *store)
 {
-    store_put(store, kept->name, 0, kept->text, kept->len);
-    if (fsync(store->directory) != 0)
-        stop_failed(FAILED, "Can't be sure of", kept->path);
+    return store_put(store, kept->name, 0, kept->text, kept->len) && fsync(store->directory) == 0;
+}
+
+int kept_there(const struct kept *kept, const struct store *store)
+{
+    static struct kept there;
+
+    memcpy(there.name, kept->name, sizeof there.name);
+    if (!kept_read(&there, store))
+        return -1;
+    return there.len == kept->len && memcmp(there.text, kept->text, kept->len) == 0;
 }
 
 void kept_remove(const struct kept *kept, const struct store *store)
 {
-    unlinkat(store->directory, kept->name, 0);
+    int found = kept_there(kept, store);
+
+    if (found < 0 || (found == 1 && unlinkat(store->directory, kept->name, 0) == 0))
+        return;
+    fprintf(stderr, "plan: ");
+    text_put(stderr, kept->name);
+    fprintf(stderr, found == 0 ? " was written again meanwhile, and is left there.\n" : " can't be removed.\n");
 }
 
 void kept_from_list(struct kept *kept, const struct list *list, const char *opened)
@@ -76,13 +91,24 @@ void kept_from_text(struct kept *kept, const uint8_t *text, size_t len, const ch
     kept->len += len;
 }
 
+/* A word of a command as a shell takes it. */
+static void put_word(const char *word)
+{
+    static const char plain[] = "abcdefghijklmnopqrstuvwxyzABCDEFGHIJKLMNOPQRSTUVWXYZ0123456789-_./";
+    int quoted = !*word || word[strspn(word, plain)];
+
+    fputs(quoted ? "'" : "", stderr);
+    text_put(stderr, word);
+    fputs(quoted ? "'" : "", stderr);
+}
+
 void kept_say(const struct kept *kept, const struct store *store)
 {
     fprintf(stderr, "Your text is kept beside the sheet, in ");
     text_put(stderr, kept->name);
     fprintf(stderr, ". Lay it over the sheet as it is now:\n  plan edit ");
-    text_put(stderr, store->given);
+    put_word(store->given);
     fprintf(stderr, " --resume --as ");
-    text_put(stderr, kept->who);
+    put_word(kept->who);
     putc('\n', stderr);
 }

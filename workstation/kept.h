@@ -12,7 +12,7 @@
 struct kept {
     const char *who;
     char name[NAME_MAX + 1], path[PATH_MAX + NAME_MAX + 2];
-    uint8_t text[CSV_MOST + DIGITS_MOST + 16]; /* room for the first line before any text */
+    uint8_t text[CSV_MOST + OPENED_MOST + 16]; /* room for the first line before any text */
     size_t len;
 };
 
@@ -21,10 +21,14 @@ struct kept {
 /* Names the text of a planner. */
 void kept_find(struct kept *kept, const struct store *store, const char *who);
 
-/* Reads it, or gives 0 where there is none; writes it whole, under the lock; removes it. */
+/* Reads it, or gives 0 where there is none; writes it whole, under the lock, or gives 0 where that can't be done; removes
+   it, unless it has become another one, which is left and said. */
 int kept_read(struct kept *kept, const struct store *store);
-void kept_write(const struct kept *kept, const struct store *store);
+int kept_write(const struct kept *kept, const struct store *store);
 void kept_remove(const struct kept *kept, const struct store *store);
+
+/* Whether just this text is there: 1; another one: 0; none: -1. */
+int kept_there(const struct kept *kept, const struct store *store);
 
 /* Makes it the text of a list that was opened under a digest; or, as it stands, another text of CSV_MOST bytes at most
    that has no first line of this kind, or has this one. */

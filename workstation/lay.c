@@ -32,7 +32,8 @@ static void note_both(struct laid *laid, size_t number, size_t place, const uint
 {
     struct both both = {.number = number, .place = place, .opened = was, .held = theirs, .mine = own};
 
-    laid->both[laid->both_n++] = both;
+    if (laid->both_n < BOTH_MOST)
+        laid->both[laid->both_n++] = both;
 }
 
 static void put_at(size_t place, const uint8_t *record)
@@ -75,37 +76,97 @@ static void lay_well(struct laid *laid, size_t place, size_t number)
         add(own);
 }
 
-/* A record of the planner's that no number tells: a strike, most of all. */
+static size_t copies(const struct list *list, const uint8_t *record)
+{
+    size_t n = 0;
+
+    for (size_t i = 0; i < list->n; i++)
+        n += (size_t)same_record(record_at(list, i), record);
+    return n;
+}
+
+/* A record that no number tells is known by its bytes, and there may be several of it. So many are to be laid: as many as
+   the one has who has touched them; where both have added or both taken away, as many as the one who has done more. */
+static size_t wanted(const uint8_t *record)
+{
+    size_t was = copies(opened, record), own = copies(mine, record), theirs = copies(held, record);
+
+    if (own == was)
+        return theirs;
+    if (theirs == was)
+        return own;
+    if (own > was && theirs > was)
+        return own > theirs ? own : theirs;
+    if (own < was && theirs < was)
+        return own < theirs ? own : theirs;
+    return own + theirs - was;
+}
+
+/* So many are there by now. */
+static size_t there(const uint8_t *record)
+{
+    size_t n = copies(&added, record);
+
+    for (size_t i = 0; i < put.n; i++)
+        n += !gone[i] && same_record(record_at(&put, i), record);
+    return n;
+}
+
+/* Where one of them stands in the list held and is still there: at the same place if it can be. Else n. */
+static size_t standing_at(const uint8_t *record, size_t place)
+{
+    if (place < put.n && !gone[place] && same_record(record_at(&put, place), record))
+        return place;
+    for (place = put.n; place-- > 0;)
+        if (!gone[place] && same_record(record_at(&put, place), record))
+            return place;
+    return put.n;
+}
+
+/* A record of the planner's in the place of one whose number tells it, and that isn't in the planner's list any more: a
+   strike, most of all. Gives whether it is laid. */
+static int lay_for_well(struct laid *laid, size_t place, size_t number, const uint8_t *was, const uint8_t *own)
+{
+    const uint8_t *theirs = well_of(held, &in_held, number);
+
+    if (!same(was, theirs) && (theirs || !struck(own)))
+        note_both(laid, number, place, was, theirs, own);
+    if (theirs)
+        put_at(in_held.place[number], own);
+    return theirs != NULL;
+}
+
+/* The same in the place of one that no number tells. */
+static int lay_for_other(struct laid *laid, size_t place, const uint8_t *was, const uint8_t *own)
+{
+    size_t at = standing_at(was, place);
+
+    if (struck(was))
+        at = at == place ? at : put.n;
+    else if (there(was) <= wanted(was)) {
+        if (copies(mine, was) < copies(opened, was) && copies(held, was) < copies(opened, was))
+            note_both(laid, 0, place, was, NULL, own);
+        return 0;
+    }
+    if (at < put.n)
+        put_at(at, own);
+    return at < put.n;
+}
+
+/* A record of the planner's that no number tells. */
 static void lay_other(struct laid *laid, size_t place)
 {
-    const uint8_t *own = record_at(mine, place), *was = place < opened->n ? record_at(opened, place) : NULL, *theirs;
+    const uint8_t *own = record_at(mine, place), *was = place < opened->n ? record_at(opened, place) : NULL;
     size_t number = was ? well_number(was) : 0;
 
-    if (was && same_record(own, was))
+    /* The same as before, or there already, as where lines have moved or others have added it too. */
+    if ((was && same_record(own, was)) || (!struck(own) && there(own) >= wanted(own)))
         return;
-    if (was && tells(number)) {
-        /* The well that stood here is only a line further up or down. */
-        if (in_mine.place[number] != NONE)
-            was = NULL;
-        else {
-            theirs = well_of(held, &in_held, number);
-            if (!same(was, theirs) && (theirs || !struck(own)))
-                note_both(laid, number, place, was, theirs, own);
-            if (theirs) {
-                put_at(in_held.place[number], own);
-                return;
-            }
-        }
-    } else if (was && place < held->n) {
-        theirs = record_at(held, place);
-        if (same_record(theirs, own))
-            return;
-        if (same_record(theirs, was)) {
-            put_at(place, own);
-            return;
-        }
-        note_both(laid, 0, place, was, theirs, own);
-    }
+    if (was && !tells(number) && lay_for_other(laid, place, was, own))
+        return;
+    /* Where the well that stood here is only a line further up or down, nothing was replaced. */
+    if (was && tells(number) && in_mine.place[number] == NONE && lay_for_well(laid, place, number, was, own))
+        return;
     if (!struck(own))
         add(own);
 }
@@ -117,9 +178,8 @@ static void lay_taken(struct laid *laid, size_t place)
     size_t number = well_number(was);
 
     if (!tells(number)) {
-        if (place >= mine->n && place < held->n && same_record(was, record_at(held, place)) &&
-            same_record(was, record_at(&put, place)))
-            gone[place] = 1;
+        if (!struck(was) && there(was) > wanted(was))
+            gone[standing_at(was, place)] = 1;
         return;
     }
     theirs = well_of(held, &in_held, number);
@@ -129,6 +189,24 @@ static void lay_taken(struct laid *laid, size_t place)
     if (!same(was, theirs))
         note_both(laid, number, place, was, theirs, NULL);
     gone[in_held.place[number]] = 1;
+}
+
+/* Records that no number tells, and of which both have touched how many there are, or that aren't laid as they should be:
+   the planner is to look at them. */
+static void note_others(struct laid *laid)
+{
+    for (size_t i = 0; i < opened->n; i++) {
+        const uint8_t *was = record_at(opened, i);
+        size_t before, own, theirs;
+
+        if (struck(was) || tells(well_number(was)))
+            continue;
+        before = copies(opened, was);
+        own = copies(mine, was);
+        theirs = copies(held, was);
+        if ((own != before && theirs != before && own != theirs) || copies(&laid->list, was) != wanted(was))
+            note_both(laid, 0, i, was, theirs > 0 ? was : NULL, own > 0 ? was : NULL);
+    }
 }
 
 static int gather(struct laid *laid)
@@ -154,8 +232,8 @@ int lay(struct laid *laid, const struct list *opened_list, const struct list *mi
     mine = mine_list;
     held = held_list;
     laid->both_n = 0;
-    if (same_list(opened, held) || same_list(opened, mine)) {
-        laid->list = same_list(opened, held) ? *mine : *held;
+    if (same_list(opened, held) || same_list(opened, mine) || same_list(mine, held)) {
+        laid->list = same_list(opened, mine) ? *held : *mine;
         return 1;
     }
     index_wells(&in_opened, opened);
@@ -173,7 +251,22 @@ int lay(struct laid *laid, const struct list *opened_list, const struct list *mi
     }
     for (size_t i = 0; i < opened->n; i++)
         lay_taken(laid, i);
-    return gather(laid);
+    if (!gather(laid))
+        return 0;
+    note_others(laid);
+    return 1;
+}
+
+void lay_add(struct laid *laid, const struct laid *more)
+{
+    for (size_t i = 0; i < more->both_n; i++) {
+        size_t k = 0;
+
+        while (k < laid->both_n && laid->both[k].number != more->both[i].number)
+            k++;
+        if (more->both[i].number > 0 && k == laid->both_n && k < BOTH_MOST)
+            laid->both[laid->both_n++] = more->both[i];
+    }
 }
 
 static void print_one(FILE *to, const char *whose, const uint8_t *record, int numbered)

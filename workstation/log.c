@@ -71,7 +71,8 @@ static void read_at(const struct store *store, int log, uint64_t from, uint8_t *
 }
 
 /* What lies behind the entries that count is what a killed saver has left: its entry, or a part of it, or bytes that
-   never came to the disk. More than an entry that goes on from this sheet are saves that it lacks. */
+   never came to the disk. An entry that goes on from this sheet and was accepted, or has more behind it, is a save that
+   the sheet lacks. */
 static void check_end(const struct store *store, const struct sheet *sheet, int log)
 {
     uint8_t head[ENTRY_HEAD], last[DIGEST_MOST];
@@ -84,9 +85,10 @@ static void check_end(const struct store *store, const struct sheet *sheet, int 
     if (len < sheet->logged)
         stop(DAMAGED, "%s is cut off: it has fewer saves than the sheet.", store->log_name);
     behind = len - sheet->logged;
-    if (behind > ENTRY_HEAD) {
+    if (behind >= ENTRY_HEAD) {
         read_at(store, log, sheet->logged, head, sizeof head);
-        if (memcmp(head + 40, sheet->digest, DIGEST_MOST) == 0 && behind > entry_bytes(get_number(head + 32, 4)))
+        if (memcmp(head + 40, sheet->digest, DIGEST_MOST) == 0 &&
+            (get_number(head + 36, 4) != 0 || behind > entry_bytes(get_number(head + 32, 4))))
             stop(DAMAGED, "%s is older than %s, which has saves that it lacks.", store->name, store->log_name);
     }
     if (sheet->logged > 0) {
@@ -116,9 +118,18 @@ void log_add(int log, struct sheet *sheet, const struct entry *entry)
     if (ftruncate(log, (off_t)sheet->logged) != 0 || lseek(log, (off_t)sheet->logged, SEEK_SET) < 0 ||
         write_all(log, bytes, len) != 0 || fsync(log) != 0)
         stop_failed(FAILED, "Can't write", "the log");
-    close(log);
     sheet->saves++;
     sheet->logged += len;
+}
+
+/* The save is accepted already: where the mark can't be written, it is missing. */
+void log_accepted(int log, uint64_t at)
+{
+    static const uint8_t mark[4] = {0, 0, 0, 1};
+    ssize_t put = pwrite(log, mark, sizeof mark, (off_t)(at + 36));
+
+    (void)put;
+    close(log);
 }
 
 struct log_reader log_read(const struct store *store, const struct sheet *sheet)
@@ -155,8 +166,8 @@ int log_next(struct log_reader *reader, struct entry *entry)
     }
     read_next(reader, bytes, ENTRY_HEAD);
     head_from_bytes(entry, bytes);
-    if (entry->steps.n > STEPS_MOST)
-        stop(DAMAGED, "The log is damaged: a save has more steps than a sheet has records.");
+    if (entry->steps.n == 0 || entry->steps.n > STEPS_MOST)
+        stop(DAMAGED, "The log is damaged: a save has no steps, or more than a sheet has records.");
     read_next(reader, bytes, entry_bytes(entry->steps.n) - ENTRY_HEAD);
     steps_from_bytes(entry, bytes);
     reader->saves--;

@@ -1,11 +1,12 @@
 /* The planners' workstation: a sheet of wells that several planners share. A save carries the digest of the sheet that
    its planner opened, and is turned away where somebody else has saved since. README.md says how to use it. */
-#define _POSIX_C_SOURCE 200809L
+#define _XOPEN_SOURCE 700 /* realpath */
 #include "brine.h"
 #include "changes.h"
 #include "edit.h"
 #include "say.h"
 #include "show.h"
+#include <errno.h>
 #include <fcntl.h>
 #include <pwd.h>
 #include <signal.h>
@@ -35,9 +36,9 @@ static const char usage[] =
     "\n"
     "Status: 0 done. Else the number with which the library refused: 1 no such code, 8 full, 10 CLAIM of another\n"
     "length, 11 or 16 the sheet has changed since, 13 too many sheets, 19 too many hops, 20 not sound, 21 no such\n"
-    "well. 64 the command can't be understood. 65 the sheet, its log or a CSV file can't be used. 73 SHEET exists\n"
-    "already. 74 the system refused something. After all these nothing was saved. 75 saved, but the system didn't\n"
-    "confirm it.\n";
+    "well. 64 the command can't be understood. 65 the sheet, its log or a CSV file can't be used, or you have said\n"
+    "no. 73 SHEET, or a text that is kept, exists already. 74 the system refused something. After all these nothing\n"
+    "was saved. 75 saved, but the system didn't confirm it, or the answer couldn't be printed.\n";
 
 static struct desk desk;
 static struct steps steps;
@@ -79,7 +80,7 @@ static const char *who(void)
 }
 
 /* Reads the wells of a CSV file, and keeps its text; its first line may have the digest that was opened. */
-static void read_csv(struct list *list, char opened[DIGITS_MOST], uint8_t *text, size_t *len, const char *file)
+static void read_csv(struct list *list, char opened[OPENED_MOST], uint8_t *text, size_t *len, const char *file)
 {
     struct csv_fault fault;
 
@@ -113,7 +114,7 @@ static int run_new(void)
 {
     static struct list list;
     static uint8_t text[CSV_MOST + 1];
-    char opened[DIGITS_MOST];
+    char opened[OPENED_MOST];
     struct claim claim;
     const char *name = who();
     uint64_t answer;
@@ -123,7 +124,7 @@ static int run_new(void)
     desk.sheet.code = options.code ? number(options.code) : LUFFA_256;
     answer = sheet_build(&desk.sheet);
     if (answer != LUFFA_DONE)
-        stop((int)answer, "%s", sentence(answer));
+        stop((int)answer, "Refused, answer %d. %s", (int)answer, sentence(answer));
     if (options.from) {
         read_csv(&list, opened, text, &len, options.from);
         say_fault(&list);
@@ -159,7 +160,7 @@ static int run_save(void)
     static struct kept kept;
     static struct list list;
     static uint8_t text[CSV_MOST + 1];
-    char opened[DIGITS_MOST];
+    char opened[OPENED_MOST];
     struct claim claim, said;
     const char *name = who();
     size_t len;
@@ -167,6 +168,7 @@ static int run_save(void)
     closing = " Nothing was saved.";
     claim_read(&claim, arguments[1]);
     read_csv(&list, opened, text, &len, arguments[2]);
+    opened[strcspn(opened, ",")] = 0;
     claim_read(&said, opened);
     if (opened[0] && (said.len != claim.len || memcmp(said.bytes, claim.bytes, claim.len) != 0))
         stop(USAGE, "%s was opened under another digest than the claim.", arguments[2]);
@@ -183,6 +185,9 @@ static int run_save(void)
     desk_open(&desk);
     steps_between(&steps, &desk.sheet.list, &list);
     desk_save(&desk, &steps, &claim, name, &kept);
+    /* What was kept of the same text when it was turned away is saved now. */
+    if (kept_there(&kept, &desk.store) == 1)
+        kept_remove(&kept, &desk.store);
     return desk_answer(&desk);
 }
 
@@ -294,36 +299,41 @@ static void check_page(const char *file)
     FILE *there = fopen(file, "r");
     size_t n = there ? fread(found, 1, sizeof begin - 1, there) : 0;
 
+    if (!there && errno == ENOENT)
+        return;
     if (there)
         fclose(there);
-    if (n > 0 && strcmp(found, begin) != 0)
+    if (n < sizeof begin - 1 || strcmp(found, begin) != 0)
         stop(EXISTS, "%s is there, and is no page: it isn't written over.", file);
 }
 
-/* The page takes its name when it is whole; what is no file, as a terminal, is written to. */
+/* The page takes its name when it is whole, where a link stands the one that it leads to; what is no file, as a terminal,
+   is written to. */
 static void write_page(const struct brine *brine, const char *file)
 {
-    char part[PATH_MAX];
+    char part[PATH_MAX], *path = realpath(file, NULL);
+    const char *name = path ? path : file;
     struct stat about;
     int whole = stat(file, &about) != 0 || S_ISREG(about.st_mode), failed;
     FILE *to;
 
     if (whole)
         check_page(file);
-    if ((size_t)snprintf(part, sizeof part, whole ? "%s~%ld" : "%s", file, (long)getpid()) >= sizeof part)
+    if ((size_t)snprintf(part, sizeof part, whole ? "%s~%ld" : "%s", name, (long)getpid()) >= sizeof part)
         stop(USAGE, "%s: the name is too long.", file);
     to = fopen(part, "w");
     if (!to)
-        stop_failed(FAILED, "Can't make", part);
+        stop_failed(FAILED, "Can't make", file);
     brine_page(to, brine, when());
     failed = ferror(to);
     failed = fclose(to) != 0 || failed;
     if (!failed && whole)
-        failed = rename(part, file) != 0;
+        failed = rename(part, name) != 0;
     if (failed && whole)
         unlink(part);
     if (failed)
         stop_failed(FAILED, "Can't write", file);
+    free(path);
 }
 
 static int run_brine(void)

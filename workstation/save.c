@@ -3,6 +3,7 @@
 #include "save.h"
 #include "say.h"
 #include "well.h"
+#include <errno.h>
 #include <inttypes.h>
 #include <stdlib.h>
 #include <string.h>
@@ -143,16 +144,14 @@ static void tell_where(const struct luffa_sheet_where *where, const struct list 
     side_by_side(opened, held, from, to);
 }
 
-/* Keeps the planner's text, but never over another one of the same planner. Gives whether it is kept. */
-static int keep(const struct store *store, const struct kept *own)
+/* Keeps the planner's text, but never over another one of the same planner. Gives null, or why it isn't kept. */
+static const char *keep(const struct store *store, const struct kept *own)
 {
-    static struct kept there;
+    int found = kept_there(own, store);
 
-    memcpy(there.name, own->name, sizeof there.name);
-    if (kept_read(&there, store))
-        return there.len == own->len && memcmp(there.text, own->text, own->len) == 0;
-    kept_write(own, store);
-    return 1;
+    if (found == 0)
+        return "an earlier one is, which you save or remove first";
+    return found == 1 || kept_write(own, store) ? NULL : strerror(errno);
 }
 
 /* The sheet that a stale planner opened is the one that had the claimed digest, which the log has. The entries that count
@@ -164,10 +163,12 @@ static void turn_away(struct desk *desk, const struct claim *claim, const struct
 {
     static struct sheet opened;
     struct luffa_sheet_where where = {.number = LUFFA_STALE};
-    int known, is_kept;
+    const char *why = own ? keep(&desk->store, own) : NULL;
+    int known;
 
-    is_kept = own && keep(&desk->store, own);
     store_unlock(&desk->store);
+    if (own && !why)
+        closing = " Nothing was saved, and your text is kept beside the sheet.";
     opened.code = desk->sheet.code;
     known = log_find(&desk->store, &desk->sheet, claim->bytes, &opened.list);
     if (known && sheet_build(&opened) == LUFFA_DONE)
@@ -180,10 +181,10 @@ static void turn_away(struct desk *desk, const struct claim *claim, const struct
         fprintf(stderr, "No sheet that its log knows had the digest that was given.\n");
     fprintf(stderr, "The sheet that is held now has ");
     print_digest(stderr, desk->sheet.digest, digest_bytes(desk->sheet.code));
-    if (is_kept)
-        kept_say(own, &desk->store);
+    if (why)
+        fprintf(stderr, "Your text isn't kept beside the sheet: %s.\n", why);
     else if (own)
-        fprintf(stderr, "Your text isn't kept beside the sheet: an earlier one is, which you save or remove first.\n");
+        kept_say(own, &desk->store);
     exit((int)where.number);
 }
 
@@ -208,6 +209,7 @@ void desk_save(struct desk *desk, const struct steps *steps, const struct claim 
         entry.steps = *steps;
         log_add(desk->log, &next, &entry);
         store_replace(&desk->store, &next);
+        log_accepted(desk->log, desk->sheet.logged);
         desk->sheet = next;
     }
     store_unlock(&desk->store);

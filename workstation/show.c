@@ -4,7 +4,6 @@
 #include "changes.h"
 #include "csv.h"
 #include "log.h"
-#include "save.h"
 #include "say.h"
 #include <inttypes.h>
 #include <stdio.h>
@@ -164,6 +163,7 @@ int mend(const char *file)
     close(log_open(&store, &sheet));
     store_clean(&store);
     store_replace(&store, &sheet);
+    store_unlock(&store);
     printf("%" PRIu64 " of %zu mark%s %s wrong, the first was mark %" PRIu64 ": mended\n", mended.wrong, marks, many(marks),
            mended.wrong == 1 ? "was" : "were", mended.first);
     return printed(UNSURE);
@@ -212,10 +212,11 @@ int print_log(const char *file)
 }
 
 /* Reading has compared the marks with those of a build already. Here every save is made again from the empty sheet on,
-   each with the digest that it carried, and must lead to the sheet that is held. */
+   by the library, with the digest that it carried, and on a plain list, and must lead to the sheet that is held. */
 int verify(const char *file)
 {
     static struct sheet again;
+    static struct list plain;
     static struct entry entry;
     struct log_reader reader;
     size_t marks;
@@ -224,12 +225,14 @@ int verify(const char *file)
     store_lock(&store);
     store_read(&store, &sheet, NULL);
     close(log_open(&store, &sheet));
+    store_unlock(&store);
     reader = log_read(&store, &sheet);
     again.code = sheet.code;
     sheet_build(&again);
     for (uint64_t i = 1; log_next(&reader, &entry); i++)
-        if (entry.steps.n == 0 || steps_make(&again, &entry.steps, entry.before, digest_bytes(again.code)) != LUFFA_DONE ||
-            memcmp(again.digest, entry.after, DIGEST_MOST) != 0)
+        if (!steps_fold(&plain, &entry.steps) ||
+            steps_make(&again, &entry.steps, entry.before, digest_bytes(again.code)) != LUFFA_DONE ||
+            !same_list(&plain, &again.list) || memcmp(again.digest, entry.after, DIGEST_MOST) != 0)
             stop(DAMAGED, "%s is damaged: save %" PRIu64 " doesn't follow from the one before.", store.log_name, i);
     if (!same_list(&again.list, &sheet.list) || memcmp(again.marks, sheet.marks, sizeof sheet.marks) != 0)
         stop(DAMAGED, "%s doesn't lead to %s.", store.log_name, store.name);

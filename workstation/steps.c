@@ -105,7 +105,8 @@ int steps_fold(struct list *list, const struct steps *steps)
             memcpy(list->records + RECORD * step->place, step->record, RECORD);
         } else if (step->kind == APPENDED && step->place == list->n && list->n < LUFFA_SHEET_MOST) {
             memcpy(list->records + RECORD * list->n++, step->record, RECORD);
-        } else if (step->kind == DROPPED && list->n > 0 && step->place == list->n - 1) {
+        } else if (step->kind == DROPPED && list->n > 0 && step->place == list->n - 1 &&
+                   same_record(step->record, record_at(list, list->n - 1))) {
             memset(list->records + RECORD * --list->n, 0, RECORD);
         } else if (step->kind == CLOSED_UP && step->place == standing(list)) {
             size_t left = 0;

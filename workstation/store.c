@@ -50,9 +50,9 @@ static void find(struct store *store, char *path, const char *file)
     const char *directory = slash == path ? "/" : slash ? path : ".";
     size_t len = strlen(name);
 
-    if (len == 0 || strchr(name, '~') || (len > 4 && strcmp(name + len - 4, ".log") == 0) ||
+    if (len == 0 || strcmp(name, ".") == 0 || strcmp(name, "..") == 0 || strchr(name, '~') || (len > 4 && strcmp(name + len - 4, ".log") == 0) ||
         (len > 5 && strcmp(name + len - 5, ".lock") == 0))
-        stop(USAGE, "%s: a sheet's name can't be empty, end in .log or .lock, or have a ~ in it.", file);
+        stop(USAGE, "%s: a sheet's name can't be empty or dots, end in .log or .lock, or have a ~ in it.", file);
     if (len + 24 > NAME_MAX || strlen(path) >= PATH_MAX)
         stop(USAGE, "%s: the name is too long.", file);
     snprintf(store->name, sizeof store->name, "%s", name);
@@ -94,24 +94,40 @@ void store_find_new(struct store *store, const char *file)
 
 /* The lock is a file of its own, as the sheet's file is another one after each save: a lock on that would be lost by
    the rename. It is never removed, as one who waits for it would then hold a lock that nobody else sees. The system
-   lets go of it when its holder ends, however that happens. */
-void store_lock(struct store *store)
+   lets go of it when its holder ends, however that happens, or closes the file: so it stays open. Its first byte is the
+   lock of saves, and every other one that of a planner's text. */
+static int lock_byte(struct store *store, off_t at, short type, int command)
 {
-    struct flock whole = {.l_type = F_WRLCK, .l_whence = SEEK_SET};
+    struct flock byte = {.l_type = type, .l_whence = SEEK_SET, .l_start = at, .l_len = 1};
 
-    store->lock = openat(store->directory, store->lock_name, O_RDWR | O_CREAT | O_CLOEXEC, 0666);
+    if (store->lock < 0)
+        store->lock = openat(store->directory, store->lock_name, O_RDWR | O_CREAT | O_CLOEXEC, 0666);
     if (store->lock < 0)
         stop_failed(FAILED, "Can't open", store->lock_name);
-    while (fcntl(store->lock, F_SETLKW, &whole) != 0)
+    while (fcntl(store->lock, command, &byte) != 0)
         if (errno != EINTR)
-            stop_failed(FAILED, "Can't lock", store->lock_name);
+            return 0;
+    return 1;
 }
 
-/* Closing the file lets go of the lock. */
+void store_lock(struct store *store)
+{
+    if (!lock_byte(store, 0, F_WRLCK, F_SETLKW))
+        stop_failed(FAILED, "Can't lock", store->lock_name);
+}
+
 void store_unlock(struct store *store)
 {
-    close(store->lock);
-    store->lock = -1;
+    lock_byte(store, 0, F_UNLCK, F_SETLK);
+}
+
+/* Which byte, the name's digest says. */
+int store_hold_text(struct store *store, const char *who)
+{
+    uint8_t digest[LUFFA_256_BYTES];
+
+    luffa_digest(LUFFA_256, (const uint8_t *)who, strlen(who), digest, sizeof digest);
+    return lock_byte(store, (off_t)(1 + get_number(digest, 7)), F_WRLCK, F_SETLK);
 }
 
 void store_read(struct store *store, struct sheet *sheet, struct luffa_mend_answer *spoiled)
@@ -129,6 +145,7 @@ void store_read(struct store *store, struct sheet *sheet, struct luffa_mend_answ
         stop(DAMAGED, "%s isn't used: the same file has another name (a hard link), and its saves would part.",
              store->name);
     store->mode = about.st_mode & 0777;
+    store->group = about.st_gid;
     /* One byte more than the longest sheet, so that a longer file is seen to be one. */
     len = read_all(fd, bytes, sizeof bytes);
     if (len < 0)
@@ -159,19 +176,22 @@ void store_clean(const struct store *store)
 }
 
 /* A file is on the disk before it takes its name, so that nobody finds a part of one under it. */
-void store_put(const struct store *store, const char *name, mode_t mode, const uint8_t *bytes, size_t len)
+int store_put(const struct store *store, const char *name, mode_t mode, const uint8_t *bytes, size_t len)
 {
-    int fd = openat(store->directory, store->new_name, O_WRONLY | O_CREAT | O_EXCL | O_CLOEXEC, 0666);
+    int fd = openat(store->directory, store->new_name, O_WRONLY | O_CREAT | O_EXCL | O_CLOEXEC, 0666), error;
 
     if (fd < 0)
-        stop_failed(FAILED, "Can't make", store->new_name);
-    if ((mode && fchmod(fd, mode) != 0) || write_all(fd, bytes, len) != 0 || fsync(fd) != 0 || close(fd) != 0 ||
-        renameat(store->directory, store->new_name, store->directory, name) != 0) {
-        int error = errno;
-        unlinkat(store->directory, store->new_name, 0);
-        errno = error;
-        stop_failed(FAILED, "Can't write", name);
-    }
+        return 0;
+    /* Only a member of the group can give it the file; else what was the group's is nobody's. */
+    if (mode && fchown(fd, (uid_t)-1, store->group) != 0)
+        mode &= (mode_t)~070;
+    if ((!mode || fchmod(fd, mode) == 0) && write_all(fd, bytes, len) == 0 && fsync(fd) == 0 && close(fd) == 0 &&
+        renameat(store->directory, store->new_name, store->directory, name) == 0)
+        return 1;
+    error = errno;
+    unlinkat(store->directory, store->new_name, 0);
+    errno = error;
+    return 0;
 }
 
 /* The new sheet has its name on the disk before anybody is told. */
@@ -179,7 +199,8 @@ void store_replace(struct store *store, const struct sheet *sheet)
 {
     static uint8_t bytes[FILE_MOST];
 
-    store_put(store, store->name, store->mode, bytes, sheet_to_bytes(sheet, bytes));
+    if (!store_put(store, store->name, store->mode, bytes, sheet_to_bytes(sheet, bytes)))
+        stop_failed(FAILED, "Can't write", store->name);
     closing = "";
     if (fsync(store->directory) != 0)
         stop_failed(UNSURE, "Saved, but it may not outlast a loss of power, as the system didn't confirm it:",

@@ -8,7 +8,8 @@
 
 struct store {
     int directory, lock;
-    mode_t mode;       /* of the sheet's file, which a save keeps */
+    mode_t mode;       /* of the sheet's file, which a save keeps, */
+    gid_t group;       /* and its group, without which the others of the group couldn't read it any more */
     const char *given; /* the sheet as the command names it */
     char folder[PATH_MAX];
     /* Names within the directory. NAME is the sheet, NAME.lock the lock, NAME.log the log of saves (log.h), NAME~NUMBER
@@ -26,15 +27,18 @@ void store_find_new(struct store *store, const char *file);
 void store_lock(struct store *store);
 void store_unlock(struct store *store);
 
+/* Holds the text of a planner until the program ends. Gives 0 where another program does. */
+int store_hold_text(struct store *store, const char *who);
+
 /* Reads the sheet. It needs no lock: the file is replaced whole or not at all. With `spoiled`, marks that aren't those
    of the records are mended in memory (sheet.h). */
 void store_read(struct store *store, struct sheet *sheet, struct luffa_mend_answer *spoiled);
 
 /* Under the lock: removes what savers that were killed have left, puts a sheet in the place of the old one, and puts
-   any bytes whole under a name. */
+   any bytes whole under a name, or gives 0 where that can't be done. */
 void store_clean(const struct store *store);
 void store_replace(struct store *store, const struct sheet *sheet);
-void store_put(const struct store *store, const char *name, mode_t mode, const uint8_t *bytes, size_t len);
+int store_put(const struct store *store, const char *name, mode_t mode, const uint8_t *bytes, size_t len);
 
 /* Reads up to n bytes until the end of the file, or writes n bytes. They give the bytes read, 0 where all were
    written, and -1 where it failed. */

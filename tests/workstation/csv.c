@@ -22,7 +22,7 @@ static void judge_place(const uint8_t *text, size_t len, const struct csv_fault 
     check(fault->column <= columns, "line %zu has no column %zu: %s", fault->line, fault->column, fault->words);
 }
 
-int read_lent(struct list *list, char opened[DIGITS_MOST], const uint8_t *text, size_t len, struct csv_fault *fault)
+int read_lent(struct list *list, char opened[OPENED_MOST], const uint8_t *text, size_t len, struct csv_fault *fault)
 {
     static const uint8_t zeros[sizeof list->records];
     uint8_t *block = malloc(len > 0 ? len : 1);
@@ -32,7 +32,7 @@ int read_lent(struct list *list, char opened[DIGITS_MOST], const uint8_t *text, 
     check(block != NULL, "no room for %zu bytes", len);
     memcpy(lent, text, len);
     memset(list, 0xa5, sizeof *list);
-    memset(opened, 0xa5, DIGITS_MOST);
+    memset(opened, 0xa5, OPENED_MOST);
     memset(fault, 0, sizeof *fault);
     done = csv_read(list, opened, lent, len, fault);
     if (done) {
@@ -51,7 +51,7 @@ int read_lent(struct list *list, char opened[DIGITS_MOST], const uint8_t *text, 
 static int begins_badly(uint8_t byte) { return byte < ' ' || strchr("=+-@", byte); }
 
 /* Whether every line has its cells, none begins badly, and nothing stands there that can't be shown. */
-static void well_formed(const uint8_t *text, size_t len, size_t lines, int opened)
+static void well_formed(const uint8_t *text, size_t len, size_t lines, const char *opened)
 {
     size_t cells = 1, line = 1, from = 0;
     int quoted = 0;
@@ -68,7 +68,8 @@ static void well_formed(const uint8_t *text, size_t len, size_t lines, int opene
         if (!quoted && text[i] == ',')
             cells++;
         if (text[i] == '\n') {
-            check(!quoted && cells == (opened && line == 1 ? 2 : 12), "line %zu has %zu cells", line, cells);
+            check(!quoted && cells == (opened[0] && line == 1 ? (strchr(opened, ',') ? 3 : 2) : 12),
+                  "line %zu has %zu cells", line, cells);
             check(all_shown((const char *)text + from, i - from), "line %zu can't be shown", line);
             cells = 1;
             line++;
@@ -84,10 +85,10 @@ void same_again(const struct list *list, const char *opened)
     static struct list back;
     size_t len = csv_write(text, list, opened);
     struct csv_fault fault;
-    char digest[DIGITS_MOST];
+    char digest[OPENED_MOST];
     int done;
 
-    well_formed(text, len, list->n + 1 + (opened[0] != 0), opened[0] != 0);
+    well_formed(text, len, list->n + 1 + (opened[0] != 0), opened);
     done = read_lent(&back, digest, text, len, &fault);
     check(done, "what was written isn't read: line %zu, column %zu, %s", fault.line, fault.column, fault.words);
     check(memcmp(&back, list, sizeof back) == 0, "other records, or more or fewer");
@@ -95,12 +96,12 @@ void same_again(const struct list *list, const char *opened)
     check(csv_write(again, &back, digest) == len && memcmp(again, text, len) == 0, "another text");
 }
 
-void any_digest(char opened[DIGITS_MOST])
+void any_digest(char opened[OPENED_MOST])
 {
-    size_t len = one_in(2) ? 0 : 2 * digest_bytes(1 + below(4));
+    size_t half = one_in(2) ? 0 : 2 * digest_bytes(1 + below(4)), len = half > 0 && one_in(2) ? 2 * half + 1 : half;
 
     for (size_t i = 0; i < len; i++)
-        opened[i] = "0123456789abcdef"[below(16)];
+        opened[i] = i > 0 && i == half ? ',' : "0123456789abcdef"[below(16)];
     opened[len] = 0;
 }
 
@@ -108,7 +109,7 @@ void any_digest(char opened[DIGITS_MOST])
 static void there_and_back(void)
 {
     static struct list list;
-    char opened[DIGITS_MOST];
+    char opened[OPENED_MOST];
 
     for (size_t at = 0; at < NOTE; at++) {
         memset(&list, 0, sizeof list);
@@ -142,7 +143,7 @@ static int sample(const char *name, const char *from)
 {
     static struct list list;
     static uint8_t text[CSV_MOST];
-    char opened[DIGITS_MOST];
+    char opened[OPENED_MOST];
     FILE *file = fopen(name, "wb");
     size_t len;
 
@@ -158,7 +159,7 @@ static int read_file(const char *name)
 {
     static struct list list;
     static uint8_t text[CSV_MOST + 1];
-    char opened[DIGITS_MOST];
+    char opened[OPENED_MOST];
     struct csv_fault fault;
     FILE *file = fopen(name, "rb");
     size_t len;

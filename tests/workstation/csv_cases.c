@@ -16,7 +16,7 @@
 #define TEXT(literal) (literal), sizeof(literal) - 1
 
 static struct list list;
-static char opened[DIGITS_MOST];
+static char opened[OPENED_MOST];
 static struct csv_fault fault;
 
 /* Reads a text that must be read. */
@@ -142,7 +142,9 @@ static const struct {
     {TEXT("opened,^ABCD\n" HEADER), "the digest of the sheet"},
     {TEXT("opened,^ab \n" HEADER), "the digest of the sheet"},
     {TEXT("opened,^" DIGEST32 DIGEST32 DIGEST32 DIGEST32 "00\n" HEADER), "the digest of the sheet"},
-    {TEXT("opened,ab^,\n" HEADER), "the line goes on after 2 cells"},
+    {TEXT("opened,ab,^abc\n" HEADER), "the digest of the sheet"},
+    {TEXT("opened,ab,,^cd\n" HEADER), "the digest of the sheet"},
+    {TEXT("opened,^,\n" HEADER), "the digest of the sheet"},
     {TEXT("opened,ab\n^"), "the line ends after 1 cell, and 12"},
     {TEXT("opened^\n" HEADER), "the line ends after 1 cell, and 12"},
     {TEXT("^Opened,ab,c,d,e,f,g,h,i,j,k,l\n" HEADER), "the header's cell 1"},
@@ -343,7 +345,8 @@ static void places(void)
 static void opened_lines(void)
 {
     static const char *const digests[] = {"ab", DIGEST32, DIGEST32 DIGEST32, DIGEST32 DIGEST32 DIGEST32 DIGEST32};
-    static const char *const forms[] = {"opened,%s\n" HEADER, "opened,\"%s\"\r\n" HEADER, BOM "opened,%s\n" HEADER};
+    static const char *const forms[] = {"opened,%s\n" HEADER, "opened,\"%s\"\r\n" HEADER, BOM "opened,%s\n" HEADER,
+                                        "opened,%s,,,,,,,,,,\n" HEADER};
     char text[512];
 
     for (size_t i = 0; i < COUNT_OF(digests); i++)
@@ -353,6 +356,9 @@ static void opened_lines(void)
             check(list.n == 0 && strcmp(opened, digests[i]) == 0, "opened %s, not %s", opened, digests[i]);
             same_again(&list, digests[i]);
         }
+    is_read("a text that was laid over another", TEXT("opened,ab,cd,,\n" HEADER));
+    check(strcmp(opened, "ab,cd") == 0, "laid over, and opened %s", opened);
+    same_again(&list, opened);
 }
 
 /* Adds a text to one that is being made as often as is said, and gives its length. */

@@ -355,7 +355,7 @@ static void count_refusal(const char *words)
 struct file {
     enum { WHOLE, RANDOM, DAMAGED } kind;
     struct list list;
-    char opened[DIGITS_MOST];
+    char opened[OPENED_MOST];
     size_t first_row;
 };
 
@@ -384,7 +384,7 @@ void damaged_files(size_t files)
     static struct file file;
     static struct list list;
     size_t whole = 0, others = 0, in_rows = 0, before = 0;
-    char opened[DIGITS_MOST];
+    char opened[OPENED_MOST];
     struct csv_fault fault;
 
     for (size_t i = 0; i < files; i++) {

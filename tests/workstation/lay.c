@@ -206,6 +206,70 @@ static void check_random(void)
     check();
 }
 
+static size_t count(const struct list *list, const uint8_t *record)
+{
+    size_t n = 0;
+
+    for (size_t i = 0; i < list->n; i++)
+        n += memcmp(record_at(list, i), record, RECORD) == 0;
+    return n;
+}
+
+/* So many of a record stand in the list laid as the one has who alone has touched them; else it is listed. */
+static void check_count(const uint8_t *record)
+{
+    size_t was = count(&opened, record), own = count(&mine, record), theirs = count(&held, record),
+           got = count(&laid.list, record);
+
+    if (struck(record))
+        return;
+    if (own > was && theirs > was ? got < own || got < theirs
+                                  : laid.both_n == 0 && got != (own == was ? theirs : own))
+        fail("another number of a record, and it isn't listed", get_number(record, 2));
+    if (own > was && theirs == was && got < own)
+        fail("the planner's new record isn't there", get_number(record, 2));
+}
+
+/* Numbers that repeat, and 0: edits of any kind by both. */
+static void edit_any(struct list *list, size_t edits)
+{
+    while (edits-- > 0) {
+        size_t place = list->n > 0 ? any(list->n) : 0;
+
+        switch (any(4)) {
+        case 0:
+            if (list->n > 0)
+                take(list, place);
+            break;
+        case 1:
+            if (list->n > 0)
+                put(list, place, any(2) ? 0 : any(4), any(3) * any(4));
+            break;
+        default:
+            insert(list, any(2) ? list->n : place, any(4), 1 + any(4));
+        }
+    }
+}
+
+static void check_any(void)
+{
+    memset(&opened, 0, sizeof opened);
+    edit_any(&opened, any(8));
+    mine = held = opened;
+    edit_any(&mine, any(4));
+    edit_any(&held, any(4));
+    if (!lay(&laid, &opened, &mine, &held))
+        fail("no room", 0);
+    for (size_t i = 0; i < opened.n; i++)
+        check_count(record_at(&opened, i));
+    for (size_t i = 0; i < mine.n; i++)
+        check_count(record_at(&mine, i));
+    for (size_t i = 0; i < held.n; i++)
+        check_count(record_at(&held, i));
+    if (!lay(&laid, &opened, &mine, &mine) || laid.both_n != 0 || memcmp(&laid.list, &mine, sizeof mine) != 0)
+        fail("laid over itself it isn't itself", 0);
+}
+
 /* Records that no number tells aren't lost either. */
 static void check_others(void)
 {
@@ -230,6 +294,8 @@ int main(void)
     check_others();
     for (rounds = 0; rounds < 10000; rounds++)
         check_random();
+    for (rounds = 0; rounds < 20000; rounds++)
+        check_any();
     if (overlaps < 500 || full == 0)
         fail("too little was met", (size_t)overlaps);
     printf("lay: %ld texts laid over sheets, %ld wells touched by both\n", 2 * rounds, overlaps);

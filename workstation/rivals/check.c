@@ -198,9 +198,10 @@ static int fold(size_t code, const struct shared *shared, int rivals)
         list_digest(&list, code, digests[i + 1]);
         if (!same(a->aim, digests[i + 1]))
             return wrong("%s asked for another list than was saved", who);
-        if (number(entry + 36, 4) != 0 || !same(entry + 40, digests[i]) ||
-            !same(entry + ENTRY_HEAD + STEP * n, digests[i + 1]))
+        if (!same(entry + 40, digests[i]) || !same(entry + ENTRY_HEAD + STEP * n, digests[i + 1]))
             return wrong("%s: the log has other digests than the list", who);
+        if (number(entry + 36, 4) != 1 && (number(entry + 36, 4) != 0 || a->end != KILLED))
+            return wrong("%s isn't marked as accepted", who);
         if (a->end == LUFFA_DONE && !same(a->told, digests[i + 1]))
             return wrong("%s was told another digest than the list has", who);
         order[i] = a;
