@@ -1,6 +1,7 @@
 /* The functions of brine.h, but for the page. */
 #include "brine.h"
 #include "csv.h"
+#include "say.h"
 #include <inttypes.h>
 #include <stdlib.h>
 #include <string.h>
@@ -98,8 +99,8 @@ void brine_summary(const struct brine *brine)
 {
     printf("%" PRIu64 " sheet%s sound, %" PRIu64 " faulted, total intake %" PRIu64 " kg a day, %" PRIu64
            " injector%s overloaded\n",
-           brine->total.sound, brine->total.sound == 1 ? "" : "s", brine->total.faulted, brine->total.intake,
-           brine->total.overloaded, brine->total.overloaded == 1 ? "" : "s");
+           brine->total.sound, many(brine->total.sound), brine->total.faulted, brine->total.intake,
+           brine->total.overloaded, many(brine->total.overloaded));
 }
 
 /* A name or note as a cell. */

@@ -1,6 +1,5 @@
 /* The functions of changes.h. */
 #include "changes.h"
-#include <string.h>
 
 void index_wells(struct index *index, const struct list *list)
 {
@@ -12,6 +11,11 @@ void index_wells(struct index *index, const struct list *list)
         uint16_t *place = &index->place[well_number(record_at(list, i))];
         *place = *place == NONE ? (uint16_t)i : SEVERAL;
     }
+}
+
+const uint8_t *well_of(const struct list *list, const struct index *index, size_t number)
+{
+    return index->place[number] == NONE ? NULL : record_at(list, index->place[number]);
 }
 
 static struct index in_before, in_after;
@@ -42,7 +46,7 @@ static void print_line(FILE *to, size_t place, size_t number, const uint8_t *bef
 static const uint8_t *other(const struct list *list, const struct index *index, size_t place, size_t number)
 {
     if (tells(number))
-        return index->place[number] == NONE ? NULL : record_at(list, index->place[number]);
+        return well_of(list, index, number);
     return place < list->n && !tells(well_number(record_at(list, place))) ? record_at(list, place) : NULL;
 }
 

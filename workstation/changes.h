@@ -11,6 +11,9 @@ struct index {
 };
 void index_wells(struct index *index, const struct list *list);
 
+/* The record of the only well with a number that tells it, or null. */
+const uint8_t *well_of(const struct list *list, const struct index *index, size_t number);
+
 /* Prints a line, set in, for each record that isn't the same in both, and how many wells only stand at another place.
    Wells whose number tells them are held against each other by it, all other records by their place. */
 void changes_print(FILE *to, const struct list *before, const struct list *after);

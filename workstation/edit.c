@@ -1,10 +1,10 @@
 /* The functions of edit.h. */
 #define _POSIX_C_SOURCE 200809L
 #include "edit.h"
+#include "csvfile.h"
 #include "lay.h"
 #include "say.h"
 #include <errno.h>
-#include <fcntl.h>
 #include <signal.h>
 #include <stdlib.h>
 #include <string.h>
@@ -18,34 +18,6 @@ static struct laid laid;
 /* The list that was opened, what the text makes of it, and the line `opened` of the text without its first cell. */
 static struct list opened, mine;
 static char line_opened[OPENED_MOST];
-
-size_t text_read(uint8_t *text, const char *file)
-{
-    int fd = strcmp(file, "-") == 0 ? 0 : open(file, O_RDONLY | O_CLOEXEC);
-    ssize_t got = -1;
-
-    if (fd < 0 || (got = read_all(fd, text, CSV_MOST + 1)) < 0)
-        stop_failed(FAILED, "Can't read", file);
-    if (fd > 0)
-        close(fd);
-    return (size_t)got;
-}
-
-void say_at(const char *file, const struct csv_fault *fault)
-{
-    fflush(stdout);
-    fprintf(stderr, "plan: ");
-    text_put(stderr, file);
-    fprintf(stderr, ", line %zu, column %zu: %s.\n", fault->line, fault->column, fault->words);
-}
-
-void stop_at(const char *file, const struct csv_fault *fault)
-{
-    say_at(file, fault);
-    if (*closing)
-        fprintf(stderr, "plan:%s\n", closing);
-    exit(DAMAGED);
-}
 
 /* The first letter of the planner's answer; where there is none, as at the end of standard input, it is no. */
 static char ask(const char *question)

@@ -9,16 +9,4 @@
    it is now. */
 int edit(const char *file, const char *who, int resume);
 
-/* Reads a CSV file whole into a text of CSV_MOST + 1 bytes at most, "-" being standard input; gives its length. */
-size_t text_read(uint8_t *text, const char *file);
-
-/* Ends the program with the place of a fault in a CSV file. */
-#if defined(__GNUC__)
-__attribute__((noreturn))
-#endif
-void stop_at(const char *file, const struct csv_fault *fault);
-
-/* Says it without an end. */
-void say_at(const char *file, const struct csv_fault *fault);
-
 #endif

@@ -17,11 +17,6 @@ static int tells(size_t number)
     return in_opened.place[number] != SEVERAL && in_mine.place[number] != SEVERAL && in_held.place[number] != SEVERAL;
 }
 
-static const uint8_t *well_of(const struct list *list, const struct index *index, size_t number)
-{
-    return index->place[number] == NONE ? NULL : record_at(list, index->place[number]);
-}
-
 static int same(const uint8_t *one, const uint8_t *other)
 {
     return one && other ? same_record(one, other) : one == other;

@@ -3,6 +3,7 @@
 #define _XOPEN_SOURCE 700 /* realpath */
 #include "brine.h"
 #include "changes.h"
+#include "csvfile.h"
 #include "edit.h"
 #include "say.h"
 #include "show.h"
@@ -79,16 +80,6 @@ static const char *who(void)
     return name;
 }
 
-/* Reads the wells of a CSV file, and keeps its text; its first line may have the digest that was opened. */
-static void read_csv(struct list *list, char opened[OPENED_MOST], uint8_t *text, size_t *len, const char *file)
-{
-    struct csv_fault fault;
-
-    *len = text_read(text, file);
-    if (!csv_read(list, opened, text, *len, &fault))
-        stop_at(file, &fault);
-}
-
 /* Makes the sheet, empty. Where there is one it is left alone, but for one that has never been saved and is to be
    filled: it is what a `new` that was killed before it could do so has left. */
 static void make_empty(int to_be_filled)
@@ -113,12 +104,11 @@ static void make_empty(int to_be_filled)
 static int run_new(void)
 {
     static struct list list;
-    static uint8_t text[CSV_MOST + 1];
+    static struct text text;
     char opened[OPENED_MOST];
     struct claim claim;
     const char *name = who();
     uint64_t answer;
-    size_t len;
 
     closing = " Nothing was made.";
     desk.sheet.code = options.code ? number(options.code) : LUFFA_256;
@@ -126,7 +116,7 @@ static int run_new(void)
     if (answer != LUFFA_DONE)
         stop((int)answer, "Refused, answer %d. %s", (int)answer, sentence(answer));
     if (options.from) {
-        read_csv(&list, opened, text, &len, options.from);
+        csvfile_read(&text, &list, opened, options.from);
         say_fault(&list);
     }
     store_find_new(&desk.store, arguments[0]);
@@ -159,15 +149,14 @@ static int run_save(void)
 {
     static struct kept kept;
     static struct list list;
-    static uint8_t text[CSV_MOST + 1];
+    static struct text text;
     char opened[OPENED_MOST];
     struct claim claim, said;
     const char *name = who();
-    size_t len;
 
     closing = " Nothing was saved.";
     claim_read(&claim, arguments[1]);
-    read_csv(&list, opened, text, &len, arguments[2]);
+    csvfile_read(&text, &list, opened, arguments[2]);
     opened[strcspn(opened, ",")] = 0;
     claim_read(&said, opened);
     if (opened[0] && (said.len != claim.len || memcmp(said.bytes, claim.bytes, claim.len) != 0))
@@ -175,7 +164,7 @@ static int run_save(void)
     store_find(&desk.store, arguments[0]);
     kept_find(&kept, &desk.store, name);
     claim_digits(opened, &claim);
-    kept_from_text(&kept, text, len, opened);
+    kept_from_text(&kept, text.bytes, text.len, opened);
     /* What changes is told of the sheet that the planner has seen, and of no other. */
     store_read(&desk.store, &desk.sheet, NULL);
     if (claims(&claim, &desk.sheet)) {

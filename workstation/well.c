@@ -117,13 +117,64 @@ const char *well_words(char words[WORDS_MOST], const uint8_t *record, int number
     return words;
 }
 
+static void add_links(char words[WORDS_MOST], const struct list *list, const struct well *well)
+{
+    for (size_t k = 0; k < LINKS && k < well->links; k++) {
+        uint32_t number = well->link[k].injector;
+        int there = 0, injector = 0;
+
+        for (size_t i = 0; i < list->n; i++)
+            if (!struck(record_at(list, i)) && well_number(record_at(list, i)) == number) {
+                there = 1;
+                injector = injector || record_at(list, i)[LUFFA_WELL_KIND] == LUFFA_INJECTOR;
+            }
+        if (!injector) {
+            add(words, "link %zu names well %u, which %s", k + 1, number,
+                there ? "is no injector" : "isn't on this sheet");
+            return;
+        }
+        for (size_t i = 0; i < k; i++)
+            if (well->link[i].injector == number) {
+                add(words, "links %zu and %zu both name injector %u", i + 1, k + 1, number);
+                return;
+            }
+    }
+    add(words, "the links are wrong");
+}
+
+static void add_link_count(char words[WORDS_MOST], const struct well *well)
+{
+    if (well->kind == LUFFA_INJECTOR)
+        add(words, "an injector has no links, and this one has %u", well->links);
+    else if (well->links > LINKS)
+        add(words, "there are %u links, more than %d", well->links, LINKS);
+    else if (well->links == 0)
+        add(words, "the rate is %u, and there is no link", well->rate);
+    else
+        add(words, "the rate is 0, and there %s %u link%s", well->links == 1 ? "is" : "are", well->links,
+            well->links == 1 ? "" : "s");
+}
+
+static void add_shares(char words[WORDS_MOST], const struct well *well)
+{
+    uint32_t total = 0;
+
+    for (size_t k = 0; k < LINKS && k < well->links; k++) {
+        if (well->link[k].share == 0 || well->link[k].share > LUFFA_SHARES_TOTAL) {
+            add(words, "the share of link %zu is %u, not 1 to %d", k + 1, well->link[k].share, LUFFA_SHARES_TOTAL);
+            return;
+        }
+        total += well->link[k].share;
+    }
+    add(words, "the shares total %u, not %d", total, LUFFA_SHARES_TOTAL);
+}
+
 /* The rules in the library's order. Which is broken the library has said; here it is only put into words, so that a
    sheet that this function misreads is still told its rule. */
 static void add_broken(char words[WORDS_MOST], const struct list *list, uint64_t rule, size_t place)
 {
-    struct well well, other;
-    uint32_t total = 0;
-    size_t i;
+    struct well well;
+    size_t at = 0;
 
     well_read(&well, record_at(list, place));
     switch (rule) {
@@ -134,64 +185,26 @@ static void add_broken(char words[WORDS_MOST], const struct list *list, uint64_t
         add(words, "the kind is %u, neither producer (1) nor injector (2)", well.kind);
         return;
     case LUFFA_RULE_LINK_COUNT:
-        if (well.kind == LUFFA_INJECTOR)
-            add(words, "an injector has no links, and this one has %u", well.links);
-        else if (well.links > LINKS)
-            add(words, "there are %u links, more than %d", well.links, LINKS);
-        else if (well.links == 0)
-            add(words, "the rate is %u, and there is no link", well.rate);
-        else
-            add(words, "the rate is 0, and there %s %u link%s", well.links == 1 ? "is" : "are", well.links,
-                well.links == 1 ? "" : "s");
+        add_link_count(words, &well);
         return;
     case LUFFA_RULE_RATE:
         add(words, "the rate is %u, over %d", well.rate, LUFFA_RATE_MOST);
         return;
     case LUFFA_RULE_LINKS:
-        for (size_t k = 0; k < LINKS && k < well.links; k++) {
-            int there = 0, injector = 0;
-            for (i = 0; i < list->n; i++) {
-                well_read(&other, record_at(list, i));
-                if (!struck(record_at(list, i)) && other.number == well.link[k].injector) {
-                    there = 1;
-                    injector = injector || other.kind == LUFFA_INJECTOR;
-                }
-            }
-            if (!injector) {
-                add(words, "link %zu names well %u, which %s", k + 1, well.link[k].injector,
-                    there ? "is no injector" : "isn't on this sheet");
-                return;
-            }
-            for (i = 0; i < k; i++)
-                if (well.link[i].injector == well.link[k].injector) {
-                    add(words, "links %zu and %zu both name injector %u", i + 1, k + 1, well.link[k].injector);
-                    return;
-                }
-        }
-        add(words, "the links are wrong");
+        add_links(words, list, &well);
         return;
     case LUFFA_RULE_SHARES:
-        for (size_t k = 0; k < LINKS && k < well.links; k++) {
-            if (well.link[k].share == 0 || well.link[k].share > LUFFA_SHARES_TOTAL) {
-                add(words, "the share of link %zu is %u, not 1 to %d", k + 1, well.link[k].share, LUFFA_SHARES_TOTAL);
-                return;
-            }
-            total += well.link[k].share;
-        }
-        add(words, "the shares total %u, not %d", total, LUFFA_SHARES_TOTAL);
+        add_shares(words, &well);
         return;
     case LUFFA_RULE_UNUSED_LINKS:
-        for (size_t k = well.links; k < LINKS; k++)
-            if (well.link[k].injector != 0 || well.link[k].share != 0) {
-                add(words, "link %zu isn't used, and isn't empty", k + 1);
-                return;
-            }
-        add(words, "an unused link isn't empty");
+        for (at = well.links; at + 1 < LINKS && well.link[at].injector == 0 && well.link[at].share == 0;)
+            at++;
+        add(words, "link %zu isn't used, and isn't empty", at + 1);
         return;
     case LUFFA_RULE_REPEAT:
-        for (i = 0; i < place && well_number(record_at(list, i)) != well.number; i++)
-            ;
-        add(words, "place %zu has this number already", i);
+        while (at < place && well_number(record_at(list, at)) != well.number)
+            at++;
+        add(words, "place %zu has this number already", at);
         return;
     default:
         add(words, "rule %llu is broken", (unsigned long long)rule);
