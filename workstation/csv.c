@@ -7,8 +7,8 @@
 
 enum { CELLS = 12, CELL_MOST = 160 };
 
-static const char *const names[CELLS] = {"number",     "kind",    "rate",       "injector 1", "share 1",    "injector 2",
-                                         "share 2",    "injector 3", "share 3", "injector 4", "share 4",    "note"};
+static const char *const names[CELLS] = {"number",  "kind",       "rate",    "injector 1", "share 1", "injector 2",
+                                         "share 2", "injector 3", "share 3", "injector 4", "share 4", "note"};
 
 /* A text that is being read: what is left of it, and where that begins. */
 struct reading {
@@ -95,7 +95,8 @@ static int read_cell(struct reading *from, struct cell *cell)
             next(from);
             if (from->at == from->end || *from->at != '"') {
                 if (!line_ends(from) && *from->at != ',')
-                    return wrong(from, from->line, from->column, "after a closing quote stands a comma or the line's end");
+                    return wrong(from, from->line, from->column,
+                                 "after a closing quote stands a comma or the line's end");
                 break;
             }
         } else if (*from->at == '"') {
@@ -121,8 +122,8 @@ static int read_line(struct reading *from, struct cell *cells, size_t wanted)
             return 0;
         if (line_ends(from)) {
             if (i + 1 < wanted)
-                return wrong(from, from->line, from->column, "the line ends after %zu cell%s, and %zu are wanted", i + 1,
-                             i == 0 ? "" : "s", wanted);
+                return wrong(from, from->line, from->column, "the line ends after %zu cell%s, and %zu are wanted",
+                             i + 1, i == 0 ? "" : "s", wanted);
             break;
         }
         if (i + 1 == wanted)
@@ -164,7 +165,8 @@ static int read_number(const struct reading *from, struct cell *cell, size_t whi
 
     trim(cell);
     for (size_t i = 0; i < cell->len && value <= most; i++)
-        value = cell->text[i] >= '0' && cell->text[i] <= '9' ? 10 * value + (uint64_t)(cell->text[i] - '0') : UINT64_MAX;
+        value =
+            cell->text[i] >= '0' && cell->text[i] <= '9' ? 10 * value + (uint64_t)(cell->text[i] - '0') : UINT64_MAX;
     *out = (uint32_t)value;
     if (cell->len > 0 && value <= most)
         return 1;
@@ -293,8 +295,8 @@ int csv_read(struct list *list, char opened[OPENED_MOST], const uint8_t *text, s
     for (size_t i = 0; i < CELLS; i++) {
         trim(&cells[i]);
         if (!same_word(&cells[i], names[i]))
-            return wrong(&from, cells[i].line, cells[i].column, "the header's cell %zu is \"%s\", as in: number,kind,rate,..",
-                         i + 1, names[i]);
+            return wrong(&from, cells[i].line, cells[i].column,
+                         "the header's cell %zu is \"%s\", as in: number,kind,rate,..", i + 1, names[i]);
     }
     while (from.at < from.end) {
         if (line_ends(&from)) {

@@ -17,11 +17,12 @@
  *
  * Every list of records has one such file, and reading it gives the same bytes; whether the wells make sense isn't
  * asked here. Read, but never written: the mark that some programs begin UTF-8 with, lines that end in CR and LF, blank
- * lines, a last line without its end, spaces around everything but a note, words in capitals, quotes that aren't needed,
- * and `bytes` for any record.
+ * lines, a last line without its end, spaces around everything but a note, words in capitals, quotes that aren't
+ * needed, and `bytes` for any record.
  *
- * A text that a planner is editing has a line before the header: `opened,DIGEST`, the digest of the sheet that it was made
- * from, or `opened,DIGEST,FIRST` where it was laid over a newer sheet since, FIRST being that of the sheet first opened.
+ * A text that a planner is editing has a line before the header: `opened,DIGEST`, the digest of the sheet that it was
+ * made from, or `opened,DIGEST,FIRST` where it was laid over a newer sheet since, FIRST being that of the sheet first
+ * opened.
  */
 #ifndef CSV_H
 #define CSV_H

@@ -132,8 +132,8 @@ static void edit_text(void)
         leave(DAMAGED);
 }
 
-/* Writes the text under the digest of the sheet as it is now, which is what the planner sees, and under that of the sheet
-   first opened, where it is another. */
+/* Writes the text under the digest of the sheet as it is now, which is what the planner sees, and under that of the
+   sheet first opened, where it is another. */
 static void write_text(const struct list *text, const char *first)
 {
     digest_digits(line_opened, &desk.sheet);
@@ -163,8 +163,8 @@ static void find_opened(struct list *list, const char *digits)
         stop(DAMAGED, "%s was opened from a sheet that %s doesn't know.", kept.path, desk.store.log_name);
 }
 
-/* Lays the text that was kept over the sheet. What both have touched since it was first opened is what the planner is to
-   look at, also where an earlier laying has listed it already. */
+/* Lays the text that was kept over the sheet. What both have touched since it was first opened is what the planner is
+   to look at, also where an earlier laying has listed it already. */
 static void open_kept(const char *said)
 {
     static struct list first_list;

@@ -1,7 +1,7 @@
 /*
- * The text of a planner who is editing a sheet, beside the sheet: NAME~WHO.csv. It is there from the moment the sheet is
- * opened for editing until its save is accepted, so whatever comes between, the evening's work can be gone on with. Its
- * first line has the digest of the sheet that was opened (csv.h): text and digest are one file, and never disagree.
+ * The text of a planner who is editing a sheet, beside the sheet: NAME~WHO.csv. It is there from the moment the sheet
+ * is opened for editing until its save is accepted, so whatever comes between, the evening's work can be gone on with.
+ * Its first line has the digest of the sheet that was opened (csv.h): text and digest are one file, and never disagree.
  */
 #ifndef KEPT_H
 #define KEPT_H
@@ -21,8 +21,8 @@ struct kept {
 /* Names the text of a planner. */
 void kept_find(struct kept *kept, const struct store *store, const char *who);
 
-/* Reads it, or gives 0 where there is none; writes it whole, under the lock, or gives 0 where that can't be done; removes
-   it, unless it has become another one, which is left and said. */
+/* Reads it, or gives 0 where there is none; writes it whole, under the lock, or gives 0 where that can't be done;
+   removes it, unless it has become another one, which is left and said. */
 int kept_read(struct kept *kept, const struct store *store);
 int kept_write(const struct kept *kept, const struct store *store);
 void kept_remove(const struct kept *kept, const struct store *store);

@@ -80,8 +80,9 @@ static size_t copies(const struct list *list, const uint8_t *record)
     return n;
 }
 
-/* A record that no number tells is known by its bytes, and there may be several of it. So many are to be laid: as many as
-   the one has who has touched them; where both have added or both taken away, as many as the one who has done more. */
+/* A record that no number tells is known by its bytes, and there may be several of it. So many are to be laid: as many
+   as the one has who has touched them; where both have added or both taken away, as many as the one who has done more.
+ */
 static size_t wanted(const uint8_t *record)
 {
     size_t was = copies(opened, record), own = copies(mine, record), theirs = copies(held, record);
@@ -186,8 +187,8 @@ static void lay_taken(struct laid *laid, size_t place)
     gone[in_held.place[number]] = 1;
 }
 
-/* Records that no number tells, and of which both have touched how many there are, or that aren't laid as they should be:
-   the planner is to look at them. */
+/* Records that no number tells, and of which both have touched how many there are, or that aren't laid as they should
+   be: the planner is to look at them. */
 static void note_others(struct laid *laid)
 {
     for (size_t i = 0; i < opened->n; i++) {

@@ -1,13 +1,13 @@
 /*
  * The log of a sheet: one entry for each save, in the order in which they were accepted.
  *
- * Which saves were accepted? Those in the first `logged` bytes, `saves` of them, where both numbers stand in the sheet's
- * own file. A saver holds the lock, writes its entry at `logged`, waits until the disk has it, and then puts in place the
- * sheet that has what was saved, `saves` + 1 and the new `logged` together. That rename is the moment of acceptance:
- * killed before it, the saver has left an entry, or a part of one, that doesn't count, and the next saver cuts it off;
- * killed after it, the save is accepted although its planner was never told. So there is no moment at which sheet and
- * log disagree, and an entry that counts is never written again, but for the mark that its save was accepted: by it an
- * older copy of the sheet is told from one whose next saver was killed.
+ * Which saves were accepted? Those in the first `logged` bytes, `saves` of them, where both numbers stand in the
+ * sheet's own file. A saver holds the lock, writes its entry at `logged`, waits until the disk has it, and then puts in
+ * place the sheet that has what was saved, `saves` + 1 and the new `logged` together. That rename is the moment of
+ * acceptance: killed before it, the saver has left an entry, or a part of one, that doesn't count, and the next saver
+ * cuts it off; killed after it, the save is accepted although its planner was never told. So there is no moment at
+ * which sheet and log disagree, and an entry that counts is never written again, but for the mark that its save was
+ * accepted: by it an older copy of the sheet is told from one whose next saver was killed.
  *
  * An entry, every number high byte first:
  *   bytes 0 to 23      who saved, then zeros
@@ -15,8 +15,8 @@
  *   bytes 32 to 35     the number of its steps
  *   bytes 36 to 39     1 after the save was accepted, unless its saver was killed before it could write that; else 0
  *   bytes 40 to 103    the digest before, then zeros
- *   then, a step       byte 0: 1 changed, 2 appended, 3 dropped, 4 closed up; bytes 1 to 3 zero; bytes 4 to 7 the place;
- *                      bytes 8 to 47 the record (steps.h)
+ *   then, a step       byte 0: 1 changed, 2 appended, 3 dropped, 4 closed up; bytes 1 to 3 zero; bytes 4 to 7
+ *                      the place; bytes 8 to 47 the record (steps.h)
  *   the last 64        the digest after, then zeros
  */
 #ifndef LOG_H

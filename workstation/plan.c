@@ -180,8 +180,8 @@ static int run_save(void)
     return desk_answer(&desk);
 }
 
-/* The sheet without the wells that the arguments name. One that the claim doesn't speak of is left as it is: that it has
-   changed comes before what may be amiss with it. */
+/* The sheet without the wells that the arguments name. One that the claim doesn't speak of is left as it is: that it
+   has changed comes before what may be amiss with it. */
 static void strike(struct list *list, const struct claim *claim)
 {
     *list = desk.sheet.list;
@@ -296,8 +296,8 @@ static void check_page(const char *file)
         stop(EXISTS, "%s is there, and is no page: it isn't written over.", file);
 }
 
-/* The page takes its name when it is whole, where a link stands the one that it leads to; what is no file, as a terminal,
-   is written to. */
+/* The page takes its name when it is whole, where a link stands the one that it leads to; what is no file, as a
+   terminal, is written to. */
 static void write_page(const struct brine *brine, const char *file)
 {
     char part[PATH_MAX], *path = realpath(file, NULL);
@@ -386,8 +386,8 @@ static const struct {
     const char **value; /* or null, and then a flag */
     int *flag;
 } known[] = {
-    {"--code", 'c', &options.code, NULL}, {"--from", 'f', &options.from, NULL}, {"--as", 'a', &options.as, NULL},
-    {"--html", 'p', &options.html, NULL}, {"--hops", 'h', &options.hops, NULL}, {"--csv", 's', NULL, &options.csv},
+    {"--code", 'c', &options.code, NULL},     {"--from", 'f', &options.from, NULL}, {"--as", 'a', &options.as, NULL},
+    {"--html", 'p', &options.html, NULL},     {"--hops", 'h', &options.hops, NULL}, {"--csv", 's', NULL, &options.csv},
     {"--resume", 'r', NULL, &options.resume},
 };
 

@@ -123,7 +123,8 @@ static void side_by_side(const struct list *opened, const struct list *held, siz
     for (size_t i = from; i < last; i++) {
         int same = i < opened->n && i < held->n && same_record(record_at(opened, i), record_at(held, i));
         const char *was = words_at(one, opened, i);
-        fprintf(stderr, "%5zu  %s%*s  %s\n", i, was, wide - width(was), "", same ? "the same" : words_at(other, held, i));
+        fprintf(stderr, "%5zu  %s%*s  %s\n", i, was, wide - width(was), "",
+                same ? "the same" : words_at(other, held, i));
     }
     if (last < to)
         fprintf(stderr, "and %zu places more\n", to - last);
@@ -137,7 +138,8 @@ static void tell_where(const struct luffa_sheet_where *where, const struct list 
 
     if (where->kind == LUFFA_WHERE_GROUP) {
         to = to > from + 4 ? from + 4 : to;
-        fprintf(stderr, "The sheets first differ in group %zu, places %zu to %zu:\n", (size_t)where->group, from, from + 3);
+        fprintf(stderr, "The sheets first differ in group %zu, places %zu to %zu:\n", (size_t)where->group, from,
+                from + 3);
     } else {
         fprintf(stderr, "The sheets are the same up to place %zu, and differ from there on:\n", from);
     }
@@ -154,8 +156,8 @@ static const char *keep(const struct store *store, const struct kept *own)
     return found == 1 || kept_write(own, store) ? NULL : strerror(errno);
 }
 
-/* The sheet that a stale planner opened is the one that had the claimed digest, which the log has. The entries that count
-   stand there for good, so the others needn't wait while it is looked for. */
+/* The sheet that a stale planner opened is the one that had the claimed digest, which the log has. The entries that
+   count stand there for good, so the others needn't wait while it is looked for. */
 #if defined(__GNUC__)
 __attribute__((noreturn))
 #endif
@@ -217,7 +219,8 @@ void desk_save(struct desk *desk, const struct steps *steps, const struct claim 
         return;
     say_refused(answer);
     if (answer == LUFFA_CLAIM)
-        fprintf(stderr, "At its code %zu they have %zu digits.\n", desk->sheet.code, 2 * digest_bytes(desk->sheet.code));
+        fprintf(stderr, "At its code %zu they have %zu digits.\n", desk->sheet.code,
+                2 * digest_bytes(desk->sheet.code));
     exit((int)answer);
 }
 

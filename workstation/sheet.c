@@ -80,12 +80,12 @@ size_t sheet_to_bytes(const struct sheet *sheet, uint8_t *bytes)
 }
 
 /*
- * What comes back from a disk is in doubt, and luffa.h says: in doubt, build, or mend. So every reading mends the marks,
- * in its own memory, and asks how many were wrong; records that don't give the digest are found by digesting them. It
- * costs what two checksums over the records would, some 0.4 ms for a full sheet, where one fsync of a save takes
- * milliseconds; and it finds marks that were false already when they were written, which a checksum would confirm.
- * The head, which neither sees, has a seal. (A workstation that keeps running would build when it opens a sheet, and
- * save from its marks then on.)
+ * What comes back from a disk is in doubt, and luffa.h says: in doubt, build, or mend. So every reading mends the
+ * marks, in its own memory, and asks how many were wrong; records that don't give the digest are found by digesting
+ * them. It costs what two checksums over the records would, some 0.4 ms for a full sheet, where one fsync of a save
+ * takes milliseconds; and it finds marks that were false already when they were written, which a checksum would
+ * confirm. The head, which neither sees, has a seal. (A workstation that keeps running would build when it opens a
+ * sheet, and save from its marks then on.)
  */
 const char *sheet_from_bytes(struct sheet *sheet, const uint8_t *bytes, size_t len, struct luffa_mend_answer *spoiled)
 {
@@ -123,7 +123,8 @@ const char *sheet_from_bytes(struct sheet *sheet, const uint8_t *bytes, size_t l
     if (luffa_digest(sheet->code, sheet->list.records, RECORD * n, digest, sizeof digest) != LUFFA_DONE ||
         memcmp(digest, sheet->digest, sizeof digest) != 0)
         return "its records don't give its digest";
-    mended = luffa_sheet_mend(sheet->code, sheet->list.records, sizeof sheet->list.records, n, sheet->marks, MARKS_MOST);
+    mended =
+        luffa_sheet_mend(sheet->code, sheet->list.records, sizeof sheet->list.records, n, sheet->marks, MARKS_MOST);
     if (mended.number != LUFFA_DONE)
         return "its marks can't be worked out";
     if (spoiled)

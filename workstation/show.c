@@ -16,8 +16,8 @@ static struct sheet sheet;
 
 static void print_head(FILE *to)
 {
-    fprintf(to, "%zu record%s, code %zu, %" PRIu64 " save%s\n", sheet.list.n, many(sheet.list.n), sheet.code, sheet.saves,
-            many(sheet.saves));
+    fprintf(to, "%zu record%s, code %zu, %" PRIu64 " save%s\n", sheet.list.n, many(sheet.list.n), sheet.code,
+            sheet.saves, many(sheet.saves));
 }
 
 /* The digest, and sound, or the fault. */
@@ -134,7 +134,8 @@ int reach(const char *file, size_t well, size_t hops)
     answer = luffa_plan_reach(sheet.list.records, sizeof sheet.list.records, sheet.list.n, well, hops, reached,
                               sizeof reached);
     if (answer == LUFFA_UNSOUND)
-        stop((int)answer, "Refused, answer %d. The sheet isn't sound: %s.", (int)answer, fault_words(words, &sheet.list));
+        stop((int)answer, "Refused, answer %d. The sheet isn't sound: %s.", (int)answer,
+             fault_words(words, &sheet.list));
     if (answer != LUFFA_DONE)
         stop((int)answer, "Refused, answer %d. %s", (int)answer, sentence(answer));
     for (size_t i = 0; i <= hops; i++) {
@@ -164,8 +165,8 @@ int mend(const char *file)
     store_clean(&store);
     store_replace(&store, &sheet);
     store_unlock(&store);
-    printf("%" PRIu64 " of %zu mark%s %s wrong, the first was mark %" PRIu64 ": mended\n", mended.wrong, marks, many(marks),
-           mended.wrong == 1 ? "was" : "were", mended.first);
+    printf("%" PRIu64 " of %zu mark%s %s wrong, the first was mark %" PRIu64 ": mended\n", mended.wrong, marks,
+           many(marks), mended.wrong == 1 ? "was" : "were", mended.first);
     return printed(UNSURE);
 }
 

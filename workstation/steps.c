@@ -53,9 +53,9 @@ static size_t batch(struct sheet *sheet, const struct steps *steps, size_t first
         places[n] = steps->step[first + n].place;
         memcpy(records + RECORD * n, steps->step[first + n].record, RECORD);
     }
-    *answer = luffa_sheet_batch(sheet->code, sheet->list.records, sizeof sheet->list.records, sheet->list.n,
-                                sheet->marks, MARKS_MOST, places, n, records, RECORD * n, claim, claim_len,
-                                sheet->digest, DIGEST_MOST);
+    *answer =
+        luffa_sheet_batch(sheet->code, sheet->list.records, sizeof sheet->list.records, sheet->list.n, sheet->marks,
+                          MARKS_MOST, places, n, records, RECORD * n, claim, claim_len, sheet->digest, DIGEST_MOST);
     return n;
 }
 

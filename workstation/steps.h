@@ -26,8 +26,9 @@ void steps_between(struct steps *steps, const struct list *from, const struct li
 void steps_close_up(struct steps *steps, const struct list *from);
 
 /* Makes the steps: the first call carries the claim, each later one the digest that the one before gave. Changes go as
-   batches. Where there is no step the claim is checked all the same. Gives LUFFA_DONE, and the sheet has records, count,
-   marks and digest of the last; or the answer of the first call that was refused, and then the sheet isn't to be used. */
+   batches. Where there is no step the claim is checked all the same. Gives LUFFA_DONE, and the sheet has records,
+   count, marks and digest of the last; or the answer of the first call that was refused, and then the sheet isn't to be
+   used. */
 uint64_t steps_make(struct sheet *sheet, const struct steps *steps, const uint8_t *claim, size_t claim_len);
 
 /* Does to a plain list what the steps say, without the library. Gives 0 where that can't be done. */

@@ -50,8 +50,8 @@ static void find(struct store *store, char *path, const char *file)
     const char *directory = slash == path ? "/" : slash ? path : ".";
     size_t len = strlen(name);
 
-    if (len == 0 || strcmp(name, ".") == 0 || strcmp(name, "..") == 0 || strchr(name, '~') || (len > 4 && strcmp(name + len - 4, ".log") == 0) ||
-        (len > 5 && strcmp(name + len - 5, ".lock") == 0))
+    if (len == 0 || strcmp(name, ".") == 0 || strcmp(name, "..") == 0 || strchr(name, '~') ||
+        (len > 4 && strcmp(name + len - 4, ".log") == 0) || (len > 5 && strcmp(name + len - 5, ".lock") == 0))
         stop(USAGE, "%s: a sheet's name can't be empty or dots, end in .log or .lock, or have a ~ in it.", file);
     if (len + 24 > NAME_MAX || strlen(path) >= PATH_MAX)
         stop(USAGE, "%s: the name is too long.", file);
@@ -203,6 +203,6 @@ void store_replace(struct store *store, const struct sheet *sheet)
         stop_failed(FAILED, "Can't write", store->name);
     closing = "";
     if (fsync(store->directory) != 0)
-        stop_failed(UNSURE, "Saved, but it may not outlast a loss of power, as the system didn't confirm it:",
-                    store->name);
+        stop_failed(UNSURE,
+                    "Saved, but it may not outlast a loss of power, as the system didn't confirm it:", store->name);
 }

@@ -18,7 +18,8 @@ size_t text_from_bytes(char *text, const uint8_t *bytes, size_t n);
 void text_put(FILE *to, const char *bytes);
 
 /* Reads such a text of `len` characters back into at most `most` bytes. Gives how many there are, or -1 with the place
-   in the text at which it goes wrong, and why. Bytes that text_from_bytes would not leave alone are taken as they are. */
+   in the text at which it goes wrong, and why. Bytes that text_from_bytes would not leave alone are taken as they are.
+ */
 long bytes_from_text(uint8_t *bytes, size_t most, const char *text, size_t len, size_t *at, const char **why);
 
 #endif
