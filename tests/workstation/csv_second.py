@@ -49,14 +49,14 @@ def run(*arguments):
 
 
 def parse(name):
-    """The rows of a file after its header, and the digest that was opened."""
+    """The rows of a file after its header, and the digests of its line `opened`."""
     with open(name, encoding="utf-8", newline="") as file:
         text = file.read()
     for c in set(text) - {"\n"}:
         assert unicodedata.category(c) not in ("Cc", "Cs", "Zl", "Zp"), ascii(c)
         assert unicodedata.bidirectional(c) not in BIDI, ascii(c)
     rows = list(csv.reader(io.StringIO(text, newline=""), strict=True))
-    opened = rows.pop(0)[1] if rows[0][0] == "opened" else ""
+    opened = ",".join(rows.pop(0)[1:]) if rows[0][0] == "opened" else ""
     assert rows.pop(0) == NAMES
     for row in rows:
         assert len(row) == 12, row
