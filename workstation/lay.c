@@ -41,36 +41,6 @@ static void add(const uint8_t *record)
     memcpy(added.records + RECORD * added.n++, record, RECORD);
 }
 
-/* Whether the record that was opened at a place is no longer in the planner's list, and still stands there in the one
-   held: then what the planner has put there takes its place. */
-static int replaced(size_t place)
-{
-    size_t number;
-
-    if (place >= opened->n || place >= held->n || !same_record(record_at(opened, place), record_at(held, place)))
-        return 0;
-    number = well_number(record_at(opened, place));
-    return !tells(number) || in_mine.place[number] == NONE;
-}
-
-/* A record of the planner's whose number tells it. */
-static void lay_well(struct laid *laid, size_t place, size_t number)
-{
-    const uint8_t *own = record_at(mine, place), *was = well_of(opened, &in_opened, number),
-                  *theirs = well_of(held, &in_held, number);
-
-    if (same(own, was) || same(own, theirs))
-        return;
-    if (!same(was, theirs))
-        note_both(laid, number, place, was, theirs, own);
-    if (theirs)
-        put_at(in_held.place[number], own);
-    else if (!was && replaced(place))
-        put_at(place, own);
-    else
-        add(own);
-}
-
 static size_t copies(const struct list *list, const uint8_t *record)
 {
     size_t n = 0;
@@ -106,6 +76,38 @@ static size_t there(const uint8_t *record)
     for (size_t i = 0; i < put.n; i++)
         n += !gone[i] && same_record(record_at(&put, i), record);
     return n;
+}
+
+/* Whether the record that was opened at a place is no longer in the planner's list, and still stands there in the one
+   held: then what the planner has put there takes its place. */
+static int replaced(size_t place)
+{
+    const uint8_t *was;
+
+    if (place >= opened->n || place >= held->n || !same_record(record_at(opened, place), record_at(held, place)))
+        return 0;
+    was = record_at(opened, place);
+    if (!tells(well_number(was)))
+        return struck(was) || there(was) > wanted(was);
+    return in_mine.place[well_number(was)] == NONE;
+}
+
+/* A record of the planner's whose number tells it. */
+static void lay_well(struct laid *laid, size_t place, size_t number)
+{
+    const uint8_t *own = record_at(mine, place), *was = well_of(opened, &in_opened, number),
+                  *theirs = well_of(held, &in_held, number);
+
+    if (same(own, was) || same(own, theirs))
+        return;
+    if (!same(was, theirs))
+        note_both(laid, number, place, was, theirs, own);
+    if (theirs)
+        put_at(in_held.place[number], own);
+    else if (!was && replaced(place))
+        put_at(place, own);
+    else
+        add(own);
 }
 
 /* Where one of them stands in the list held and is still there: at the same place if it can be. Else n. */

@@ -223,11 +223,11 @@ static void check_count(const uint8_t *record)
 
     if (struck(record))
         return;
-    if (own > was && theirs > was ? got < own || got < theirs
+    if (own > was && theirs > was ? got != (own > theirs ? own : theirs)
                                   : laid.both_n == 0 && got != (own == was ? theirs : own))
         fail("another number of a record, and it isn't listed", get_number(record, 2));
-    if (own > was && theirs == was && got < own)
-        fail("the planner's new record isn't there", get_number(record, 2));
+    if (theirs == was && got != own)
+        fail("only the planner has touched it, and it isn't as the planner has it", get_number(record, 2));
 }
 
 /* Numbers that repeat, and 0: edits of any kind by both. */
