@@ -82,10 +82,9 @@ size_t sheet_to_bytes(const struct sheet *sheet, uint8_t *bytes)
 /*
  * What comes back from a disk is in doubt, and luffa.h says: in doubt, build, or mend. So every reading mends the
  * marks, in its own memory, and asks how many were wrong; records that don't give the digest are found by digesting
- * them. It costs what two checksums over the records would, some 0.4 ms for a full sheet, where one fsync of a save
- * takes milliseconds; and it finds marks that were false already when they were written, which a checksum would
- * confirm. The head, which neither sees, has a seal. (A workstation that keeps running would build when it opens a
- * sheet, and save from its marks then on.)
+ * them. It costs what two checksums over the records would, and it finds marks that were false already when they were
+ * written, which a checksum would confirm. The head, which neither sees, has a seal. (A workstation that keeps running
+ * would build when it opens a sheet, and save from its marks then on.)
  */
 const char *sheet_from_bytes(struct sheet *sheet, const uint8_t *bytes, size_t len, struct luffa_mend_answer *spoiled)
 {
