@@ -159,7 +159,7 @@ static void find_opened(struct list *list, const char *digits)
     struct claim claim;
 
     claim_read(&claim, digits);
-    if (!log_find(&desk.store, &desk.sheet, claim.bytes, list))
+    if (!store_had(&desk.store, &desk.sheet, claim.bytes, list))
         stop(DAMAGED, "%s was opened from a sheet that %s doesn't know.", kept.path, desk.store.log_name);
 }
 
@@ -201,9 +201,10 @@ int edit(const char *file, const char *who, int resume)
     struct claim claim;
 
     store_find(&desk.store, file);
-    kept_find(&kept, &desk.store, who);
     closing = " Nothing was saved.";
-    if (!store_hold_text(&desk.store, who))
+    if (!kept_find(&kept, &desk.store, who))
+        stop_failed(FAILED, "There is no folder for your text of", desk.store.given);
+    if (!place_hold_text(&desk.store.place, who))
         stop(EXISTS, "%s is being edited already.", kept.path);
     if (resume)
         read_kept(said);
@@ -212,7 +213,8 @@ int edit(const char *file, const char *who, int resume)
         open_kept(said);
     else
         open_new();
-    desk_leave(&desk);
+    store_leave(&desk.store);
+    store_rest(&desk.store);
     if (laid.both_n > 0)
         printf("Both have touched these. Yours stands in the text; look before you save it.\n");
     lay_print(stdout, &laid);

@@ -11,11 +11,14 @@
 
 /* Letters, digits, dot, dash and underscore stand for themselves, every other byte as % and two digits: so two planners
    never have one file. */
-void kept_find(struct kept *kept, const struct store *store, const char *who)
+int kept_find(struct kept *kept, struct store *store, const char *who)
 {
     char encoded[3 * 24 + 1] = "", *to = encoded;
 
     kept->who = who;
+    kept->beside = store_texts_beside(store);
+    if (!store_texts(store))
+        return 0;
     for (; *who && to < encoded + 3 * 24; who++)
         if ((*who >= 'a' && *who <= 'z') || (*who >= 'A' && *who <= 'Z') || (*who >= '0' && *who <= '9') ||
             strchr("-_.", *who))
@@ -23,15 +26,16 @@ void kept_find(struct kept *kept, const struct store *store, const char *who)
         else
             to += sprintf(to, "%%%02x", (unsigned)(uint8_t)*who);
     *to = 0;
-    if ((size_t)snprintf(kept->name, sizeof kept->name, "%s~%s.csv", store->name, encoded) >= sizeof kept->name)
+    if ((size_t)snprintf(kept->name, sizeof kept->name, "%s~%s.csv", store->place.name, encoded) >= sizeof kept->name)
         stop(USAGE, "%s: the name is too long for a text beside it.", store->name);
-    snprintf(kept->path, sizeof kept->path, "%s/%s", store->folder, kept->name);
+    snprintf(kept->path, sizeof kept->path, "%s/%s", store->place.folder, kept->name);
+    return 1;
 }
 
 int kept_read(struct kept *kept, const struct store *store)
 {
     /* What is no file, as a pipe, isn't waited for. */
-    int fd = openat(store->directory, kept->name, O_RDONLY | O_CLOEXEC | O_NONBLOCK);
+    int fd = openat(store->place.directory, kept->name, O_RDONLY | O_CLOEXEC | O_NONBLOCK);
     ssize_t got;
 
     if (fd < 0 && errno == ENOENT)
@@ -44,10 +48,22 @@ int kept_read(struct kept *kept, const struct store *store)
     return 1;
 }
 
-/* Its name is on the disk too before the planner is told of it. */
-int kept_write(const struct kept *kept, const struct store *store)
+/* Its name is on the disk too before the planner is told of it. Who holds the lock of a sheet in a file holds that of
+   the place. */
+int kept_write(const struct kept *kept, struct store *store)
 {
-    return store_put(store, kept->name, 0, kept->text, kept->len) && fsync(store->directory) == 0;
+    struct place *place = &store->place;
+    int locked = place->locked, written, error;
+
+    if (!locked)
+        place_lock(place);
+    written = (locked || place_clean(place)) && place_put(place, kept->name, 0, 0, kept->text, kept->len) &&
+              fsync(place->directory) == 0;
+    error = errno;
+    if (!locked)
+        place_unlock(place);
+    errno = error;
+    return written;
 }
 
 int kept_there(const struct kept *kept, const struct store *store)
@@ -64,7 +80,7 @@ void kept_remove(const struct kept *kept, const struct store *store)
 {
     int found = kept_there(kept, store);
 
-    if (found < 0 || (found == 1 && unlinkat(store->directory, kept->name, 0) == 0))
+    if (found < 0 || (found == 1 && unlinkat(store->place.directory, kept->name, 0) == 0))
         return;
     fprintf(stderr, "plan: ");
     text_put(stderr, kept->name);
@@ -104,8 +120,8 @@ static void put_word(const char *word)
 
 void kept_say(const struct kept *kept, const struct store *store)
 {
-    fprintf(stderr, "Your text is kept beside the sheet, in ");
-    text_put(stderr, kept->name);
+    fprintf(stderr, "Your text is kept %sin ", kept->beside ? "beside the sheet, " : "");
+    text_put(stderr, kept->beside ? kept->name : kept->path);
     fprintf(stderr, ". Lay it over the sheet as it is now:\n  plan edit ");
     put_word(store->given);
     fprintf(stderr, " --resume --as ");

@@ -1,5 +1,6 @@
 /*
- * The text of a planner who is editing a sheet, beside the sheet: NAME~WHO.csv. It is there from the moment the sheet
+ * The text of a planner who is editing a sheet: NAME~WHO.csv beside the sheet, or, where that is in a database, in a
+ * folder of the planner's own, as an evening's work shouldn't hang on a network. It is there from the moment the sheet
  * is opened for editing until its save is accepted, so whatever comes between, the evening's work can be gone on with.
  * Its first line has the digest of the sheet that was opened (csv.h): text and digest are one file, and never disagree.
  */
@@ -11,6 +12,7 @@
 
 struct kept {
     const char *who;
+    int beside; /* the sheet */
     char name[NAME_MAX + 1], path[PATH_MAX + NAME_MAX + 2];
     uint8_t text[CSV_MOST + OPENED_MOST + 16]; /* room for the first line before any text */
     size_t len;
@@ -18,13 +20,13 @@ struct kept {
 
 /* Each of these ends the program with a message where it can't be done. */
 
-/* Names the text of a planner. */
-void kept_find(struct kept *kept, const struct store *store, const char *who);
+/* Names the text of a planner. Gives 0 where there is no place for it. */
+int kept_find(struct kept *kept, struct store *store, const char *who);
 
-/* Reads it, or gives 0 where there is none; writes it whole, under the lock, or gives 0 where that can't be done;
-   removes it, unless it has become another one, which is left and said. */
+/* Reads it, or gives 0 where there is none; writes it whole, under the lock of its place, or gives 0 where that can't
+   be done; removes it, unless it has become another one, which is left and said. */
 int kept_read(struct kept *kept, const struct store *store);
-int kept_write(const struct kept *kept, const struct store *store);
+int kept_write(const struct kept *kept, struct store *store);
 void kept_remove(const struct kept *kept, const struct store *store);
 
 /* Whether just this text is there: 1; another one: 0; none: -1. */

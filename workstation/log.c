@@ -7,52 +7,11 @@
 #include <sys/stat.h>
 #include <unistd.h>
 
-static size_t entry_bytes(uint64_t steps)
-{
-    return ENTRY_HEAD + STEP * (size_t)steps + DIGEST_MOST;
-}
-
-static size_t to_bytes(const struct entry *entry, uint8_t *bytes)
-{
-    uint8_t *at = bytes + ENTRY_HEAD;
-
-    memset(bytes, 0, entry_bytes(entry->steps.n));
-    memcpy(bytes, entry->who, WHO);
-    put_number(bytes + 24, 8, (uint64_t)entry->when);
-    put_number(bytes + 32, 4, entry->steps.n);
-    memcpy(bytes + 40, entry->before, DIGEST_MOST);
-    for (size_t i = 0; i < entry->steps.n; i++, at += STEP) {
-        at[0] = entry->steps.step[i].kind;
-        put_number(at + 4, 4, entry->steps.step[i].place);
-        memcpy(at + 8, entry->steps.step[i].record, RECORD);
-    }
-    memcpy(at, entry->after, DIGEST_MOST);
-    return entry_bytes(entry->steps.n);
-}
-
-static void head_from_bytes(struct entry *entry, const uint8_t *bytes)
-{
-    memcpy(entry->who, bytes, WHO);
-    entry->when = (int64_t)get_number(bytes + 24, 8);
-    entry->steps.n = get_number(bytes + 32, 4);
-    memcpy(entry->before, bytes + 40, DIGEST_MOST);
-}
-
-static void steps_from_bytes(struct entry *entry, const uint8_t *at)
-{
-    for (size_t i = 0; i < entry->steps.n; i++, at += STEP) {
-        entry->steps.step[i].kind = at[0];
-        entry->steps.step[i].place = get_number(at + 4, 4);
-        memcpy(entry->steps.step[i].record, at + 8, RECORD);
-    }
-    memcpy(entry->after, at, DIGEST_MOST);
-}
-
 /* A log without a sheet is that of a sheet that was taken away, unless nothing is in it: then a `new` was killed
    before its sheet had its name. */
 void log_new(const struct store *store)
 {
-    int log = openat(store->directory, store->log_name, O_RDWR | O_CREAT | O_CLOEXEC, 0666);
+    int log = openat(store->place.directory, store->log_name, O_RDWR | O_CREAT | O_CLOEXEC, 0666);
     struct stat about;
 
     if (log < 0 || fstat(log, &about) != 0)
@@ -102,7 +61,7 @@ static void check_end(const struct store *store, const struct sheet *sheet, int 
 
 int log_open(const struct store *store, const struct sheet *sheet)
 {
-    int log = openat(store->directory, store->log_name, O_RDWR | O_CLOEXEC);
+    int log = openat(store->place.directory, store->log_name, O_RDWR | O_CLOEXEC);
 
     if (log < 0)
         stop_failed(FAILED, "Can't open", store->log_name);
@@ -113,7 +72,7 @@ int log_open(const struct store *store, const struct sheet *sheet)
 void log_add(int log, struct sheet *sheet, const struct entry *entry)
 {
     static uint8_t bytes[ENTRY_MOST];
-    size_t len = to_bytes(entry, bytes);
+    size_t len = entry_to_bytes(entry, bytes);
 
     if (ftruncate(log, (off_t)sheet->logged) != 0 || lseek(log, (off_t)sheet->logged, SEEK_SET) < 0 ||
         write_all(log, bytes, len) != 0 || fsync(log) != 0)
@@ -132,68 +91,38 @@ void log_accepted(int log, uint64_t at)
     close(log);
 }
 
-struct log_reader log_read(const struct store *store, const struct sheet *sheet)
+void log_read(struct store *store, const struct sheet *sheet)
 {
-    struct log_reader reader = {.left = sheet->logged, .saves = sheet->saves};
-
-    reader.log = openat(store->directory, store->log_name, O_RDONLY | O_CLOEXEC);
-    if (reader.log < 0)
+    if (sheet->saves == 0 && sheet->logged != 0)
+        stop(DAMAGED, "%s counts no saves, and the bytes of some.", store->name);
+    store->files.left = sheet->logged;
+    store->files.log = openat(store->place.directory, store->log_name, O_RDONLY | O_CLOEXEC);
+    if (store->files.log < 0)
         stop_failed(FAILED, "Can't open", store->log_name);
-    return reader;
 }
 
 /* Reads the next n bytes of the entries that count. */
-static void read_next(struct log_reader *reader, uint8_t *bytes, size_t n)
+static void read_next(struct store *store, uint8_t *bytes, size_t n)
 {
-    ssize_t got = n > reader->left ? 0 : read_all(reader->log, bytes, n);
+    ssize_t got = n > store->files.left ? 0 : read_all(store->files.log, bytes, n);
 
     if (got < 0)
         stop_failed(FAILED, "Can't read", "the log");
     if (got != (ssize_t)n)
         stop(DAMAGED, "The log is cut off: it has fewer saves than the sheet.");
-    reader->left -= n;
+    store->files.left -= n;
 }
 
-int log_next(struct log_reader *reader, struct entry *entry)
+void log_next(struct store *store, struct entry *entry, int is_last)
 {
     static uint8_t bytes[ENTRY_MOST];
 
-    if (reader->saves == 0) {
-        if (reader->left != 0)
-            stop(DAMAGED, "The log is damaged: its saves aren't as long as the sheet says.");
-        close(reader->log);
-        return 0;
-    }
-    read_next(reader, bytes, ENTRY_HEAD);
-    head_from_bytes(entry, bytes);
+    read_next(store, bytes, ENTRY_HEAD);
+    entry_head_from_bytes(entry, bytes);
     if (entry->steps.n == 0 || entry->steps.n > STEPS_MOST)
         stop(DAMAGED, "The log is damaged: a save has no steps, or more than a sheet has records.");
-    read_next(reader, bytes, entry_bytes(entry->steps.n) - ENTRY_HEAD);
-    steps_from_bytes(entry, bytes);
-    reader->saves--;
-    return 1;
-}
-
-/* The saves are folded over a plain list until one has left the digest; whether the list has it, the library says. */
-int log_find(const struct store *store, const struct sheet *sheet, const uint8_t digest[DIGEST_MOST], struct list *list)
-{
-    static struct entry entry;
-    struct log_reader reader = log_read(store, sheet);
-    uint8_t found[DIGEST_MOST] = {0};
-
-    memset(list, 0, sizeof *list);
-    luffa_digest(sheet->code, list->records, 0, found, DIGEST_MOST);
-    while (memcmp(found, digest, DIGEST_MOST) != 0) {
-        if (!log_next(&reader, &entry))
-            return 0;
-        if (!steps_fold(list, &entry.steps))
-            stop(DAMAGED, "%s is damaged: a save in it can't be made.", store->log_name);
-        memcpy(found, entry.after, DIGEST_MOST);
-    }
-    memset(found, 0, sizeof found);
-    luffa_digest(sheet->code, list->records, RECORD * list->n, found, DIGEST_MOST);
-    if (memcmp(found, digest, DIGEST_MOST) != 0)
-        stop(DAMAGED, "%s is damaged: its saves don't give the digests that it has.", store->log_name);
-    close(reader.log);
-    return 1;
+    read_next(store, bytes, entry_bytes(entry->steps.n) - ENTRY_HEAD);
+    entry_rest_from_bytes(entry, bytes);
+    if (is_last && store->files.left != 0)
+        stop(DAMAGED, "The log is damaged: its saves aren't as long as the sheet says.");
 }

@@ -1,5 +1,5 @@
 /*
- * The log of a sheet: one entry for each save, in the order in which they were accepted.
+ * The log of a sheet in a file: one entry for each save, in the order in which they were accepted.
  *
  * Which saves were accepted? Those in the first `logged` bytes, `saves` of them, where both numbers stand in the
  * sheet's own file. A saver holds the lock, writes its entry at `logged`, waits until the disk has it, and then puts in
@@ -8,30 +8,11 @@
  * cuts it off; killed after it, the save is accepted although its planner was never told. So there is no moment at
  * which sheet and log disagree, and an entry that counts is never written again, but for the mark that its save was
  * accepted: by it an older copy of the sheet is told from one whose next saver was killed.
- *
- * An entry, every number high byte first:
- *   bytes 0 to 23      who saved, then zeros
- *   bytes 24 to 31     when, in seconds since 1970 by the saver's clock
- *   bytes 32 to 35     the number of its steps
- *   bytes 36 to 39     1 after the save was accepted, unless its saver was killed before it could write that; else 0
- *   bytes 40 to 103    the digest before, then zeros
- *   then, a step       byte 0: 1 changed, 2 appended, 3 dropped, 4 closed up; bytes 1 to 3 zero; bytes 4 to 7
- *                      the place; bytes 8 to 47 the record (steps.h)
- *   the last 64        the digest after, then zeros
  */
 #ifndef LOG_H
 #define LOG_H
 
-#include "steps.h"
 #include "store.h"
-
-enum { WHO = 24, ENTRY_HEAD = 104, STEP = 48, ENTRY_MOST = ENTRY_HEAD + STEP * STEPS_MOST + DIGEST_MOST };
-
-struct entry {
-    uint8_t who[WHO], before[DIGEST_MOST], after[DIGEST_MOST];
-    int64_t when;
-    struct steps steps;
-};
 
 /* Each of these ends the program with a message where it can't be done. */
 
@@ -46,16 +27,8 @@ int log_open(const struct store *store, const struct sheet *sheet);
 void log_add(int log, struct sheet *sheet, const struct entry *entry);
 void log_accepted(int log, uint64_t at);
 
-/* The log of a sheet for reading, and its entries from the first on. log_next gives 0 after the last that counts. */
-struct log_reader {
-    int log;
-    uint64_t left, saves;
-};
-struct log_reader log_read(const struct store *store, const struct sheet *sheet);
-int log_next(struct log_reader *reader, struct entry *entry);
-
-/* The list that a sheet had when its digest was this one. Gives 0 where it never was. */
-int log_find(const struct store *store, const struct sheet *sheet, const uint8_t digest[DIGEST_MOST],
-             struct list *list);
+/* The log of a sheet for reading; and its next entry, which is the last that counts or not. */
+void log_read(struct store *store, const struct sheet *sheet);
+void log_next(struct store *store, struct entry *entry, int is_last);
 
 #endif

@@ -84,21 +84,14 @@ static const char *who(void)
    filled: it is what a `new` that was killed before it could do so has left. */
 static void make_empty(int to_be_filled)
 {
-    struct sheet *sheet = &desk.sheet;
-    size_t code = sheet->code;
-    struct stat about;
+    static struct sheet there;
 
-    store_lock(&desk.store);
-    store_clean(&desk.store);
-    if (fstatat(desk.store.directory, desk.store.name, &about, AT_SYMLINK_NOFOLLOW) != 0) {
-        log_new(&desk.store);
-        store_replace(&desk.store, sheet);
+    if (store_make(&desk.store, &desk.sheet))
         return;
-    }
-    if (to_be_filled && S_ISREG(about.st_mode))
-        store_read(&desk.store, sheet, NULL);
-    if (!to_be_filled || !S_ISREG(about.st_mode) || sheet->saves > 0 || sheet->code != code)
-        stop(EXISTS, "%s exists already.", arguments[0]);
+    if (to_be_filled)
+        store_read(&desk.store, &there, NULL);
+    if (!to_be_filled || there.saves > 0 || there.code != desk.sheet.code)
+        stop(EXISTS, "%s exists already.", desk.store.given);
 }
 
 static int run_new(void)
@@ -126,7 +119,7 @@ static int run_new(void)
         closing = " The sheet is made, but it is empty.";
         digest_digits(opened, &desk.sheet);
         claim_read(&claim, opened);
-        desk.log = log_open(&desk.store, &desk.sheet);
+        store_open(&desk.store, &desk.sheet, NULL);
         steps_between(&steps, &desk.sheet.list, &list);
         desk_save(&desk, &steps, &claim, name, NULL);
         return desk_answer(&desk);
@@ -153,6 +146,7 @@ static int run_save(void)
     char opened[OPENED_MOST];
     struct claim claim, said;
     const char *name = who();
+    int keeps;
 
     closing = " Nothing was saved.";
     claim_read(&claim, arguments[1]);
@@ -162,7 +156,7 @@ static int run_save(void)
     if (opened[0] && (said.len != claim.len || memcmp(said.bytes, claim.bytes, claim.len) != 0))
         stop(USAGE, "%s was opened under another digest than the claim.", arguments[2]);
     store_find(&desk.store, arguments[0]);
-    kept_find(&kept, &desk.store, name);
+    keeps = kept_find(&kept, &desk.store, name);
     claim_digits(opened, &claim);
     kept_from_text(&kept, text.bytes, text.len, opened);
     /* What changes is told of the sheet that the planner has seen, and of no other. */
@@ -173,9 +167,9 @@ static int run_save(void)
     }
     desk_open(&desk);
     steps_between(&steps, &desk.sheet.list, &list);
-    desk_save(&desk, &steps, &claim, name, &kept);
+    desk_save(&desk, &steps, &claim, name, keeps ? &kept : NULL);
     /* What was kept of the same text when it was turned away is saved now. */
-    if (kept_there(&kept, &desk.store) == 1)
+    if (keeps && kept_there(&kept, &desk.store) == 1)
         kept_remove(&kept, &desk.store);
     return desk_answer(&desk);
 }
@@ -338,9 +332,11 @@ static int run_brine(void)
 
         store_find(&desk.store, arguments[i]);
         store_read(&desk.store, &desk.sheet, NULL);
-        close(desk.store.directory);
         lists[i] = desk.sheet.list;
-        one->name = arguments[i];
+        one->name = strdup(desk.store.given);
+        if (!one->name)
+            stop_failed(FAILED, "Can't read", arguments[i]);
+        store_close(&desk.store);
         one->code = desk.sheet.code;
         one->saves = desk.sheet.saves;
         memcpy(one->digest, desk.sheet.digest, DIGEST_MOST);

@@ -7,8 +7,6 @@
 #include <inttypes.h>
 #include <stdlib.h>
 #include <string.h>
-#include <time.h>
-#include <unistd.h>
 
 void claim_read(struct claim *claim, const char *digits)
 {
@@ -44,16 +42,7 @@ void claim_digits(char digits[DIGITS_MOST], const struct claim *claim)
 void desk_open(struct desk *desk)
 {
     closing = " Nothing was saved.";
-    store_lock(&desk->store);
-    store_read(&desk->store, &desk->sheet, NULL);
-    desk->log = log_open(&desk->store, &desk->sheet);
-    store_clean(&desk->store);
-}
-
-void desk_leave(struct desk *desk)
-{
-    close(desk->log);
-    store_unlock(&desk->store);
+    store_open(&desk->store, &desk->sheet, NULL);
 }
 
 static void say_refused(uint64_t answer)
@@ -147,7 +136,7 @@ static void tell_where(const struct luffa_sheet_where *where, const struct list 
 }
 
 /* Keeps the planner's text, but never over another one of the same planner. Gives null, or why it isn't kept. */
-static const char *keep(const struct store *store, const struct kept *own)
+static const char *keep(struct store *store, const struct kept *own)
 {
     int found = kept_there(own, store);
 
@@ -168,11 +157,11 @@ static void turn_away(struct desk *desk, const struct claim *claim, const struct
     const char *why = own ? keep(&desk->store, own) : NULL;
     int known;
 
-    store_unlock(&desk->store);
+    store_leave(&desk->store);
     if (own && !why)
-        closing = " Nothing was saved, and your text is kept beside the sheet.";
+        closing = " Nothing was saved, and your text is kept.";
     opened.code = desk->sheet.code;
-    known = log_find(&desk->store, &desk->sheet, claim->bytes, &opened.list);
+    known = store_had(&desk->store, &desk->sheet, claim->bytes, &opened.list);
     if (known && sheet_build(&opened) == LUFFA_DONE)
         where = differ(&desk->sheet, &opened, claim);
 
@@ -184,7 +173,7 @@ static void turn_away(struct desk *desk, const struct claim *claim, const struct
     fprintf(stderr, "The sheet that is held now has ");
     print_digest(stderr, desk->sheet.digest, digest_bytes(desk->sheet.code));
     if (why)
-        fprintf(stderr, "Your text isn't kept beside the sheet: %s.\n", why);
+        fprintf(stderr, "Your text isn't kept: %s.\n", why);
     else if (own)
         kept_say(own, &desk->store);
     exit((int)where.number);
@@ -205,16 +194,14 @@ void desk_save(struct desk *desk, const struct steps *steps, const struct claim 
     if (desk->saved) {
         memset(entry.who, 0, WHO);
         memcpy(entry.who, who, strlen(who));
-        entry.when = (int64_t)time(NULL);
         memcpy(entry.before, desk->sheet.digest, DIGEST_MOST);
         memcpy(entry.after, next.digest, DIGEST_MOST);
         entry.steps = *steps;
-        log_add(desk->log, &next, &entry);
-        store_replace(&desk->store, &next);
-        log_accepted(desk->log, desk->sheet.logged);
+        store_save(&desk->store, &next, &entry);
         desk->sheet = next;
+        return;
     }
-    store_unlock(&desk->store);
+    store_leave(&desk->store);
     if (answer == LUFFA_DONE)
         return;
     say_refused(answer);

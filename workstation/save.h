@@ -3,13 +3,12 @@
 #define SAVE_H
 
 #include "kept.h"
-#include "log.h"
 
-/* A sheet with its lock held and its log ready: nothing comes between the check of the claim and the save. */
+/* A sheet that is open, with its lock held: nothing comes between the check of the claim and the save. */
 struct desk {
     struct store store;
     struct sheet sheet;
-    int log, saved;
+    int saved;
 };
 
 /* A digest as it was given, in bytes, up to one more than the longest has: whether they are as many as they should be
@@ -24,9 +23,8 @@ void claim_read(struct claim *claim, const char *digits);
 void digest_digits(char digits[DIGITS_MOST], const struct sheet *sheet);
 void claim_digits(char digits[DIGITS_MOST], const struct claim *claim);
 
-/* Holds the lock of a sheet whose place was found, reads it and opens its log; lets go of it without a save. */
+/* Opens a sheet whose place was found, to save it. */
 void desk_open(struct desk *desk);
-void desk_leave(struct desk *desk);
 
 /* Makes the steps as one save by `who`, and lets go of the lock. Where there is no step it checks the claim and saves
    nothing. Ends the program where it is refused: then `own`, if it isn't null, is kept, and the stale planner is told

@@ -43,9 +43,14 @@ int same_list(const struct list *one, const struct list *other)
     return one->n == other->n && memcmp(one->records, other->records, RECORD * one->n) == 0;
 }
 
-static void seal(const uint8_t *head, uint8_t out[LUFFA_256_BYTES])
+static void seal(const uint8_t *head, const char *name, uint8_t out[LUFFA_256_BYTES])
 {
-    luffa_digest(LUFFA_256, head, SEALED, out, LUFFA_256_BYTES);
+    uint8_t sealed[SEALED + SHEET_NAME_MOST];
+    size_t len = strlen(name);
+
+    memcpy(sealed, head, SEALED);
+    memcpy(sealed + SEALED, name, len);
+    luffa_digest(LUFFA_256, sealed, SEALED + len, out, LUFFA_256_BYTES);
 }
 
 uint64_t sheet_build(struct sheet *sheet)
@@ -57,7 +62,7 @@ uint64_t sheet_build(struct sheet *sheet)
         .number;
 }
 
-size_t sheet_to_bytes(const struct sheet *sheet, uint8_t *bytes)
+size_t sheet_to_bytes(const struct sheet *sheet, const char *name, uint8_t *bytes)
 {
     uint8_t *at = bytes + HEAD;
     size_t n = sheet->list.n;
@@ -70,7 +75,7 @@ size_t sheet_to_bytes(const struct sheet *sheet, uint8_t *bytes)
     put_number(bytes + 24, 8, sheet->saves);
     put_number(bytes + 32, 8, sheet->logged);
     memcpy(bytes + 40, sheet->digest, digest_bytes(sheet->code));
-    seal(bytes, bytes + SEALED);
+    seal(bytes, name, bytes + SEALED);
 
     memcpy(at, sheet->list.records, RECORD * n);
     at += RECORD * n;
@@ -86,7 +91,8 @@ size_t sheet_to_bytes(const struct sheet *sheet, uint8_t *bytes)
  * written, which a checksum would confirm. The head, which neither sees, has a seal. (A workstation that keeps running
  * would build when it opens a sheet, and save from its marks then on.)
  */
-const char *sheet_from_bytes(struct sheet *sheet, const uint8_t *bytes, size_t len, struct luffa_mend_answer *spoiled)
+const char *sheet_from_bytes(struct sheet *sheet, const char *name, const uint8_t *bytes, size_t len,
+                             struct luffa_mend_answer *spoiled)
 {
     uint8_t sealed[LUFFA_256_BYTES], digest[DIGEST_MOST] = {0};
     const uint8_t *at = bytes + HEAD;
@@ -99,7 +105,7 @@ const char *sheet_from_bytes(struct sheet *sheet, const uint8_t *bytes, size_t l
         return "it is cut off within its head";
     if (get_number(bytes + 8, 4) != 2)
         return "it has a form that this program doesn't know";
-    seal(bytes, sealed);
+    seal(bytes, name, sealed);
     if (memcmp(sealed, bytes + SEALED, sizeof sealed) != 0)
         return "its head is damaged";
     sheet->code = get_number(bytes + 12, 4);

@@ -33,13 +33,14 @@ struct sheet {
  *   bytes 24 to 31    the saves accepted so far
  *   bytes 32 to 39    the bytes of the log that are theirs (log.h)
  *   bytes 40 to 103   the digest of the sheet, then zeros
- *   bytes 104 to 135  the seal: the 256-bit digest of bytes 0 to 103
+ *   bytes 104 to 135  the seal: the 256-bit digest of bytes 0 to 103, and of the name where the sheet is in a database
  *   then              the records, 40 bytes each, and the marks, 40 words each
  * and nothing after them.
  */
 #define HEAD 136
 #define SEALED 104
 #define FILE_MOST (HEAD + RECORD * LUFFA_SHEET_MOST + 4 * MARKS_MOST)
+enum { SHEET_NAME_MOST = 100 }; /* of a sheet in a database, in bytes */
 
 /* The bytes of a digest at a code of 1 to 4. */
 size_t digest_bytes(size_t code);
@@ -55,11 +56,13 @@ int same_list(const struct list *one, const struct list *other);
 /* Builds marks and digest from the records. Gives the library's answer. */
 uint64_t sheet_build(struct sheet *sheet);
 
-/* Writes the file of a sheet, at most FILE_MOST bytes, and gives their number. */
-size_t sheet_to_bytes(const struct sheet *sheet, uint8_t *bytes);
+/* Writes the file of a sheet, at most FILE_MOST bytes, and gives their number. A sheet in a database has its name in
+   the seal; a file, which may be moved, has "". */
+size_t sheet_to_bytes(const struct sheet *sheet, const char *name, uint8_t *bytes);
 
 /* Reads a file. Gives null, or says what is wrong with it; then the sheet isn't to be used. Where `spoiled` isn't null,
    marks that aren't those of the records are no fault: they are mended, and it has what was wrong. */
-const char *sheet_from_bytes(struct sheet *sheet, const uint8_t *bytes, size_t len, struct luffa_mend_answer *spoiled);
+const char *sheet_from_bytes(struct sheet *sheet, const char *name, const uint8_t *bytes, size_t len,
+                             struct luffa_mend_answer *spoiled);
 
 #endif

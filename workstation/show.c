@@ -3,8 +3,8 @@
 #include "show.h"
 #include "changes.h"
 #include "csv.h"
-#include "log.h"
 #include "say.h"
+#include "store.h"
 #include <inttypes.h>
 #include <stdio.h>
 #include <string.h>
@@ -96,11 +96,11 @@ int check(const char *const *files, size_t n)
 
         store_find(&store, files[i]);
         store_read(&store, &sheet, NULL);
-        close(store.directory);
         fault = fault_words(words, &sheet.list);
-        text_put(stdout, files[i]);
+        text_put(stdout, store.given);
         printf(": %s%s\n", fault ? "not sound: " : "sound", fault ? fault : "");
         faulted = faulted || fault;
+        store_close(&store);
     }
     printed(FAILED);
     return faulted ? LUFFA_UNSOUND : LUFFA_DONE;
@@ -153,18 +153,15 @@ int mend(const char *file)
 
     closing = " Nothing was mended.";
     store_find(&store, file);
-    store_lock(&store);
-    store_read(&store, &sheet, &mended);
+    /* A sheet that its saves don't bear out isn't written. */
+    store_open(&store, &sheet, &mended);
     marks = sheet.list.n / 4 + 1;
     if (mended.wrong == 0) {
+        store_leave(&store);
         printf("no mark was wrong, of %zu\n", marks);
         return printed(FAILED);
     }
-    /* A sheet that its log doesn't bear out isn't written. */
-    close(log_open(&store, &sheet));
-    store_clean(&store);
-    store_replace(&store, &sheet);
-    store_unlock(&store);
+    store_mend(&store, &sheet);
     printf("%" PRIu64 " of %zu mark%s %s wrong, the first was mark %" PRIu64 ": mended\n", mended.wrong, marks,
            many(marks), mended.wrong == 1 ? "was" : "were", mended.first);
     return printed(UNSURE);
@@ -188,18 +185,17 @@ static size_t trimmed(const uint8_t *bytes, size_t n)
     return n;
 }
 
-/* It needs no lock: the saves that the sheet counts stand in the log for good. */
+/* It needs no lock: the saves that the sheet counts are there for good. */
 int print_log(const char *file)
 {
     static struct entry entry;
     static struct list before, after;
-    struct log_reader reader;
     char who[TEXT_MOST(WHO)];
 
     store_find(&store, file);
     store_read(&store, &sheet, NULL);
-    reader = log_read(&store, &sheet);
-    for (uint64_t i = 1; log_next(&reader, &entry); i++) {
+    store_saves(&store, &sheet);
+    for (uint64_t i = 1; store_next(&store, &entry); i++) {
         if (!steps_fold(&after, &entry.steps))
             stop(DAMAGED, "%s is damaged: save %" PRIu64 " can't be made.", store.log_name, i);
         text_from_bytes(who, entry.who, trimmed(entry.who, WHO));
@@ -219,18 +215,14 @@ int verify(const char *file)
     static struct sheet again;
     static struct list plain;
     static struct entry entry;
-    struct log_reader reader;
     size_t marks;
 
     store_find(&store, file);
-    store_lock(&store);
-    store_read(&store, &sheet, NULL);
-    close(log_open(&store, &sheet));
-    store_unlock(&store);
-    reader = log_read(&store, &sheet);
+    store_look(&store, &sheet);
+    store_saves(&store, &sheet);
     again.code = sheet.code;
     sheet_build(&again);
-    for (uint64_t i = 1; log_next(&reader, &entry); i++)
+    for (uint64_t i = 1; store_next(&store, &entry); i++)
         if (!steps_fold(&plain, &entry.steps) ||
             steps_make(&again, &entry.steps, entry.before, digest_bytes(again.code)) != LUFFA_DONE ||
             !same_list(&plain, &again.list) || memcmp(again.digest, entry.after, DIGEST_MOST) != 0)

@@ -28,7 +28,7 @@ static void make(size_t code, size_t n)
     }
     if (sheet_build(&sheet) != LUFFA_DONE)
         fail("not built", 0);
-    len = sheet_to_bytes(&sheet, bytes);
+    len = sheet_to_bytes(&sheet, "", bytes);
 }
 
 /* Reads a copy that has just these bytes, so that a look beyond them is seen. */
@@ -40,7 +40,7 @@ static int taken(size_t n)
     if (!copy)
         fail("no room", n);
     memcpy(copy, bytes, n);
-    wrong = sheet_from_bytes(&read_back, copy, n, NULL);
+    wrong = sheet_from_bytes(&read_back, "", copy, n, NULL);
     free(copy);
     return wrong == NULL;
 }
@@ -50,7 +50,7 @@ static void mended(size_t at)
 {
     struct luffa_mend_answer spoiled = {0};
     int marks = at >= HEAD + RECORD * sheet.list.n;
-    int read_so = sheet_from_bytes(&read_back, bytes, len, &spoiled) == NULL;
+    int read_so = sheet_from_bytes(&read_back, "", bytes, len, &spoiled) == NULL;
 
     if (read_so != marks)
         fail(marks ? "a spoiled mark wasn't mended" : "altered, and mended", at);
@@ -113,7 +113,7 @@ int main(int argc, char **argv)
         make((size_t)atoi(argv[3]), LUFFA_SHEET_MOST);
         /* No saves: its log is an empty one. */
         sheet.saves = sheet.logged = 0;
-        len = sheet_to_bytes(&sheet, bytes);
+        len = sheet_to_bytes(&sheet, "", bytes);
         return !f || fwrite(bytes, 1, len, f) != len || fclose(f) != 0;
     }
     for (size_t code = 1; code <= 4; code++)
