@@ -11,6 +11,10 @@ SONAME := libluffa.so.2
 GCC := $(if $(filter x86_64,$(shell uname -m)),gcc,x86_64-linux-gnu-gcc)
 AR := $(if $(filter x86_64,$(shell uname -m)),ar,x86_64-linux-gnu-ar)
 
+# libpq, where pkg-config finds it: then `plan` keeps sheets in PostgreSQL too. On another processor it isn't for x86-64.
+LIBPQ := $(if $(filter x86_64,$(shell uname -m)),$(shell pkg-config --exists libpq 2>/dev/null && \
+    echo -DPLAN_POSTGRESQL $$(pkg-config --cflags --libs libpq)))
+
 # The tests name others here, so as to leave these alone.
 LUFFA_ARCHIVE ?= target/staticlib/libluffa.a
 LUFFA_LIB ?= target/lib
@@ -45,7 +49,7 @@ target/bin/luffasum: $(SOURCES)
 
 $(PLAN): $(FIRST) include/luffa.h $(wildcard workstation/*.[ch])
 	mkdir -p $(@D)
-	$(GCC) -std=c11 -O2 -Wall -Wextra -Wconversion -Iinclude workstation/*.c $(FIRST) -o $@
+	$(GCC) -std=c11 -O2 -Wall -Wextra -Wconversion -Iinclude workstation/*.c $(FIRST) $(LIBPQ) -o $@
 
 story: $(PLAN)
 	@workstation/story $(PLAN)

@@ -208,12 +208,13 @@ int edit(const char *file, const char *who, int resume)
         stop(EXISTS, "%s is being edited already.", kept.path);
     if (resume)
         read_kept(said);
+    /* One who may not save is told now, and not after the evening's work. */
     desk_open(&desk);
+    store_leave(&desk.store);
     if (resume)
         open_kept(said);
     else
         open_new();
-    store_leave(&desk.store);
     store_rest(&desk.store);
     if (laid.both_n > 0)
         printf("Both have touched these. Yours stands in the text; look before you save it.\n");

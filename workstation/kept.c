@@ -107,24 +107,13 @@ void kept_from_text(struct kept *kept, const uint8_t *text, size_t len, const ch
     kept->len += len;
 }
 
-/* A word of a command as a shell takes it. */
-static void put_word(const char *word)
-{
-    static const char plain[] = "abcdefghijklmnopqrstuvwxyzABCDEFGHIJKLMNOPQRSTUVWXYZ0123456789-_./";
-    int quoted = !*word || word[strspn(word, plain)];
-
-    fputs(quoted ? "'" : "", stderr);
-    text_put(stderr, word);
-    fputs(quoted ? "'" : "", stderr);
-}
-
 void kept_say(const struct kept *kept, const struct store *store)
 {
     fprintf(stderr, "Your text is kept %sin ", kept->beside ? "beside the sheet, " : "");
     text_put(stderr, kept->beside ? kept->name : kept->path);
     fprintf(stderr, ". Lay it over the sheet as it is now:\n  plan edit ");
-    put_word(store->given);
+    put_word(stderr, store->given);
     fprintf(stderr, " --resume --as ");
-    put_word(kept->who);
+    put_word(stderr, kept->who);
     putc('\n', stderr);
 }

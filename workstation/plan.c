@@ -5,10 +5,11 @@
 #include "changes.h"
 #include "csvfile.h"
 #include "edit.h"
+#include "init.h"
 #include "say.h"
 #include "show.h"
 #include <errno.h>
-#include <fcntl.h>
+#include <inttypes.h>
 #include <pwd.h>
 #include <signal.h>
 #include <stdlib.h>
@@ -30,6 +31,12 @@ static const char usage[] =
     "plan brine SHEET... [--csv] [--html FILE]        the brine statement: a table, CSV, or one page\n"
     "plan log SHEET                                   who saved what, and when\n"
     "plan verify SHEET                                builds the marks and makes every save again, and compares\n"
+    "plan ask SHEET ID                                whether the save of this id was accepted\n"
+    "plan init DATABASE                               makes the tables and roles for sheets in PostgreSQL\n"
+    "\n"
+    "SHEET is a file, or postgresql://[USER@][HOST[:PORT]]/DATABASE/SHEET[?PARAMETERS], and DATABASE such a name "
+    "without\n"
+    "the sheet.\n"
     "\n"
     "CLAIM is the digest of the sheet as you opened it. new, edit, save, strike and close-up take --as NAME, at most\n"
     "24 bytes, for the log; else it is your login name. N of --code is 1 to 4 for 224, 256, 384 and 512 bits, and 2\n"
@@ -38,8 +45,10 @@ static const char usage[] =
     "Status: 0 done. Else the number with which the library refused: 1 no such code, 8 full, 10 CLAIM of another\n"
     "length, 11 or 16 the sheet has changed since, 13 too many sheets, 19 too many hops, 20 not sound, 21 no such\n"
     "well. 64 the command can't be understood. 65 the sheet, its log or a CSV file can't be used, or you have said\n"
-    "no. 73 SHEET, or a text that is kept, exists already. 74 the system refused something. After all these nothing\n"
-    "was saved. 75 saved, but the system didn't confirm it, or the answer couldn't be printed.\n";
+    "no. 73 SHEET, or a text that is kept, exists already. 74 the system or the server refused. After all these "
+    "nothing\n"
+    "was saved. 75 saved, but the system didn't confirm it, or the answer couldn't be printed. 76 the connection was\n"
+    "lost at the commit, and the server can't be asked: not known. 69 of plan ask: not accepted.\n";
 
 static struct desk desk;
 static struct steps steps;
@@ -255,6 +264,25 @@ static int run_log(void)
     return print_log(arguments[0]);
 }
 
+static int run_ask(void)
+{
+    uint64_t number;
+
+    store_find(&desk.store, arguments[0]);
+    number = store_ask(&desk.store, arguments[1]);
+    if (number > 0)
+        printf("accepted: save %" PRIu64 "\n", number);
+    else
+        printf("not accepted: no save of this sheet has this id\n");
+    printed(FAILED);
+    return number > 0 ? LUFFA_DONE : NOT_ACCEPTED;
+}
+
+static int run_init(void)
+{
+    return init(arguments[0]);
+}
+
 static int run_verify(void)
 {
     return verify(arguments[0]);
@@ -374,6 +402,8 @@ static const struct command {
     {"brine", "sp", 1, SIZE_MAX, run_brine},
     {"log", "", 1, 1, run_log},
     {"verify", "", 1, 1, run_verify},
+    {"ask", "", 2, 2, run_ask},
+    {"init", "", 1, 1, run_init},
 };
 
 static const struct {

@@ -58,6 +58,16 @@ void print_digest(FILE *to, const uint8_t *digest, size_t n)
     putc('\n', to);
 }
 
+void put_word(FILE *to, const char *word)
+{
+    static const char plain[] = "abcdefghijklmnopqrstuvwxyzABCDEFGHIJKLMNOPQRSTUVWXYZ0123456789-_./:@=";
+    int quoted = !*word || word[strspn(word, plain)];
+
+    fputs(quoted ? "'" : "", to);
+    text_put(to, word);
+    fputs(quoted ? "'" : "", to);
+}
+
 const char *many(uint64_t n)
 {
     return n == 1 ? "" : "s";

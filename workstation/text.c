@@ -72,7 +72,7 @@ void text_put(FILE *to, const char *bytes)
     free(text);
 }
 
-static int digit(char c)
+int hex_digit(char c)
 {
     return c >= '0' && c <= '9'   ? c - '0'
            : c >= 'a' && c <= 'f' ? c - 'a' + 10
@@ -92,8 +92,9 @@ long bytes_from_text(uint8_t *bytes, size_t most, const char *text, size_t len, 
         if (text[i] == '\\') {
             if (i + 1 < len && text[i + 1] == '\\') {
                 took = 2;
-            } else if (i + 3 < len && text[i + 1] == 'x' && digit(text[i + 2]) >= 0 && digit(text[i + 3]) >= 0) {
-                byte = (uint8_t)(digit(text[i + 2]) << 4 | digit(text[i + 3]));
+            } else if (i + 3 < len && text[i + 1] == 'x' && hex_digit(text[i + 2]) >= 0 &&
+                       hex_digit(text[i + 3]) >= 0) {
+                byte = (uint8_t)(hex_digit(text[i + 2]) << 4 | hex_digit(text[i + 3]));
                 took = 4;
             } else {
                 *why = "a backslash stands before another one, or before x and two hexadecimal digits";

@@ -22,4 +22,7 @@ void text_put(FILE *to, const char *bytes);
  */
 long bytes_from_text(uint8_t *bytes, size_t most, const char *text, size_t len, size_t *at, const char **why);
 
+/* What a hexadecimal digit counts, or -1. */
+int hex_digit(char c);
+
 #endif
