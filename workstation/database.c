@@ -10,11 +10,9 @@
 #include "store.h"
 #include "text.h"
 #include "url.h"
-#include <errno.h>
 #include <inttypes.h>
 #include <stdlib.h>
 #include <string.h>
-#include <sys/stat.h>
 
 #ifdef PLAN_POSTGRESQL
 #include "ask.h"
@@ -54,8 +52,7 @@ static void database_find(struct store *store, const char *sheet, int is_new)
     if (!database)
         stop_failed(FAILED, "Can't find", "the sheet");
     url_read(&database->url, sheet, 1);
-    database->server.uri = database->url.uri;
-    database->server.shown = database->url.shown;
+    server_find(&database->server, &database->url);
     store->database = database;
     store->given = store->name = database->url.shown;
     store->log_name = malloc(sizeof log_of + strlen(store->name));
@@ -76,46 +73,21 @@ static void database_close(struct store *store)
     free(store->log_name);
 }
 
-/* Makes the folders of a path, as far as they are missing. */
-static int make_folders(char *path)
-{
-    for (char *slash = strchr(path + 1, '/'); slash; slash = strchr(slash + 1, '/')) {
-        *slash = 0;
-        mkdir(path, 0777);
-        *slash = '/';
-    }
-    return mkdir(path, 0700) == 0 || errno == EEXIST;
-}
-
-/* Planners' texts are where programs keep what a user has done. The file's name has eight digits of the whole name's
-   digest in it, so that sheets of the same name in two databases have two files. */
+/* A file's name has eight digits of the digest of the sheet's whole name in it, so that sheets of one name in two
+   databases have two files. A long name is cut off. */
 static int database_texts(struct store *store)
 {
-    const char *state = getenv("XDG_STATE_HOME"), *home = getenv("HOME"), *name = store->database->url.name;
-    char folder[PATH_MAX], file[3 * SHEET_NAME_MOST + 16], *to = file;
+    char file[NAME_IN_FILE(SHEET_NAME_MOST) + 10];
     uint8_t digest[LUFFA_256_BYTES];
-    int fits;
+    size_t len;
 
     if (store->place.directory >= 0)
         return 1;
-    errno = ENOENT;
-    if (state && *state == '/')
-        fits = snprintf(folder, sizeof folder, "%s/plan", state) < (int)sizeof folder;
-    else if (home && *home == '/')
-        fits = snprintf(folder, sizeof folder, "%s/.local/state/plan", home) < (int)sizeof folder;
-    else
-        return 0;
-    /* Letters, digits, dash and underscore stand for themselves. A long name is cut off: the digest tells it. */
-    for (; *name && to < file + 120; name++)
-        to += sprintf(to,
-                      hex_digit(*name) >= 0 || (*name >= 'g' && *name <= 'z') || (*name >= 'G' && *name <= 'Z') ||
-                              strchr("-_", *name)
-                          ? "%c"
-                          : "%%%02x",
-                      (unsigned)(uint8_t)*name);
     luffa_digest(LUFFA_256, (const uint8_t *)store->name, strlen(store->name), digest, sizeof digest);
-    sprintf(to, "@%02x%02x%02x%02x", digest[0], digest[1], digest[2], digest[3]);
-    return fits && make_folders(folder) && place_open(&store->place, folder, file);
+    name_in_file(file, store->database->url.name);
+    len = strlen(file) > 120 ? 120 : strlen(file);
+    sprintf(file + len, "@%02x%02x%02x%02x", digest[0], digest[1], digest[2], digest[3]);
+    return place_open_own(&store->place, file);
 }
 
 /* Reads the sheet by a statement that gives its row. */

@@ -57,8 +57,7 @@ int init(const char *database)
 
     closing = " Nothing was made.";
     url_read(&url, database, 0);
-    server.uri = url.uri;
-    server.shown = url.shown;
+    server_find(&server, &url);
     server_begin(&server, making);
     if (there(&server, "SELECT 1 FROM pg_catalog.pg_namespace WHERE nspname = $1", "plan"))
         stop(EXISTS, "%s has a schema plan already.", url.shown);

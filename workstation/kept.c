@@ -9,23 +9,15 @@
 #include <string.h>
 #include <unistd.h>
 
-/* Letters, digits, dot, dash and underscore stand for themselves, every other byte as % and two digits: so two planners
-   never have one file. */
 int kept_find(struct kept *kept, struct store *store, const char *who)
 {
-    char encoded[3 * 24 + 1] = "", *to = encoded;
+    char encoded[NAME_IN_FILE(WHO)];
 
     kept->who = who;
     kept->beside = store_texts_beside(store);
     if (!store_texts(store))
         return 0;
-    for (; *who && to < encoded + 3 * 24; who++)
-        if ((*who >= 'a' && *who <= 'z') || (*who >= 'A' && *who <= 'Z') || (*who >= '0' && *who <= '9') ||
-            strchr("-_.", *who))
-            *to++ = *who;
-        else
-            to += sprintf(to, "%%%02x", (unsigned)(uint8_t)*who);
-    *to = 0;
+    name_in_file(encoded, who);
     if ((size_t)snprintf(kept->name, sizeof kept->name, "%s~%s.csv", store->place.name, encoded) >= sizeof kept->name)
         stop(USAGE, "%s: the name is too long for a text beside it.", store->name);
     snprintf(kept->path, sizeof kept->path, "%s/%s", store->place.folder, kept->name);

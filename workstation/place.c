@@ -6,6 +6,7 @@
 #include <dirent.h>
 #include <errno.h>
 #include <fcntl.h>
+#include <stdlib.h>
 #include <string.h>
 #include <sys/stat.h>
 #include <unistd.h>
@@ -51,6 +52,31 @@ int place_open(struct place *place, const char *folder, const char *name)
     place->locked = 0;
     place->directory = open(folder, O_RDONLY | O_DIRECTORY | O_CLOEXEC);
     return place->directory >= 0;
+}
+
+/* Makes the folders of a path, as far as they are missing; what is in the last is for its owner alone. */
+static int make_folders(char *path)
+{
+    for (char *slash = strchr(path + 1, '/'); slash; slash = strchr(slash + 1, '/')) {
+        *slash = 0;
+        mkdir(path, 0777);
+        *slash = '/';
+    }
+    return mkdir(path, 0700) == 0 || errno == EEXIST;
+}
+
+int place_open_own(struct place *place, const char *name)
+{
+    const char *state = getenv("XDG_STATE_HOME"), *home = getenv("HOME");
+    char folder[PATH_MAX] = "";
+    int len = 0;
+
+    if (state && *state == '/')
+        len = snprintf(folder, sizeof folder, "%s/plan", state);
+    else if (home && *home == '/')
+        len = snprintf(folder, sizeof folder, "%s/.local/state/plan", home);
+    errno = ENOENT;
+    return len > 0 && len < (int)sizeof folder && make_folders(folder) && place_open(place, folder, name);
 }
 
 void place_close(struct place *place)

@@ -19,6 +19,10 @@ enum { PLACE_NAME_MOST = NAME_MAX - 24 };
 
 /* Opens a folder for a name of at most PLACE_NAME_MOST bytes. Gives 0 where that can't be done. */
 int place_open(struct place *place, const char *folder, const char *name);
+
+/* The same of the user's own folder for what was done and isn't finished, $XDG_STATE_HOME/plan or ~/.local/state/plan,
+   which is made where it is missing. */
+int place_open_own(struct place *place, const char *name);
 void place_close(struct place *place);
 
 /* Waits for the lock, which is held until it is let go or the program ends. Ends the program where it can't be had. */

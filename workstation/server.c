@@ -48,6 +48,20 @@ static void note(struct server *server, const char *said, const char *state)
     server->words[len] = 0;
 }
 
+/* What libpq says of a name that it can't read may have the password in it, and isn't said. */
+void server_find(struct server *server, const struct url *url)
+{
+    char *said = NULL;
+    PQconninfoOption *read = PQconninfoParse(url->uri, &said);
+
+    PQfreemem(said);
+    if (!read)
+        stop(USAGE, "%s can't be understood: one of its parts isn't as libpq takes it.", url->shown);
+    PQconninfoFree(read);
+    server->uri = url->uri;
+    server->shown = url->shown;
+}
+
 /* However the program ends, the server is told. */
 static struct server *used;
 static void leave_used(void)

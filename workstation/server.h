@@ -3,9 +3,8 @@
 #ifndef SERVER_H
 #define SERVER_H
 
+#include "url.h"
 #include <libpq-fe.h>
-#include <stddef.h>
-#include <stdint.h>
 
 struct server {
     const char *uri, *shown; /* the second without a password, for messages */
@@ -27,6 +26,9 @@ void values_bytes(struct values *values, const void *bytes, size_t len);
 void values_text(struct values *values, const char *text);
 /* A smallint has 2 bytes, an integer 4, a bigint and a timestamp 8. */
 void values_number(struct values *values, size_t bytes, int64_t number);
+
+/* Names the server of a database. Ends the program where libpq can't understand the name. */
+void server_find(struct server *server, const struct url *url);
 
 /* Connects where there is no connection, or only one that was lost outside of a transaction. Gives 0 where that can't
    be done. */

@@ -72,6 +72,17 @@ void text_put(FILE *to, const char *bytes)
     free(text);
 }
 
+void name_in_file(char *to, const char *name)
+{
+    for (; *name; name++)
+        if ((*name >= 'a' && *name <= 'z') || (*name >= 'A' && *name <= 'Z') || (*name >= '0' && *name <= '9') ||
+            strchr("-_.", *name))
+            *to++ = *name;
+        else
+            to += sprintf(to, "%%%02x", (unsigned)(uint8_t)*name);
+    *to = 0;
+}
+
 int hex_digit(char c)
 {
     return c >= '0' && c <= '9'   ? c - '0'

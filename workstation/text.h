@@ -22,6 +22,11 @@ void text_put(FILE *to, const char *bytes);
  */
 long bytes_from_text(uint8_t *bytes, size_t most, const char *text, size_t len, size_t *at, const char **why);
 
+/* Writes a name as it can stand in a file's: letters, digits, dot, dash and underscore stand for themselves, every
+   other byte as % and two digits. So two names never have one file. */
+#define NAME_IN_FILE(n) (3 * (n) + 1)
+void name_in_file(char *to, const char *name);
+
 /* What a hexadecimal digit counts, or -1. */
 int hex_digit(char c);
 

@@ -53,6 +53,15 @@ static char *add(char *to, const char *from, size_t n)
     return to + n;
 }
 
+/* Whether a parameter may be shown. A % in its keyword could hide what it is from us, but not from libpq. */
+static int may_show(const char *parameter)
+{
+    size_t len = strcspn(parameter, "=&");
+
+    return !memchr(parameter, '%', len) && strncmp(parameter, "password=", 9) != 0 &&
+           strncmp(parameter, "sslpassword=", 12) != 0;
+}
+
 /* Adds the parameters but for passwords. */
 static void add_shown(char *to, const char *query)
 {
@@ -60,7 +69,7 @@ static void add_shown(char *to, const char *query)
 
     while (*query) {
         size_t len = strcspn(++query, "&");
-        if (strncmp(query, "password=", 9) != 0 && strncmp(query, "sslpassword=", 12) != 0) {
+        if (may_show(query)) {
             *to++ = between;
             to = add(to, query, len);
             between = '&';
