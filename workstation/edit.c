@@ -232,6 +232,7 @@ int edit(const char *file, const char *who, int resume)
     }
     line_opened[strcspn(line_opened, ",")] = 0;
     claim_read(&claim, line_opened);
+    closing = " Nothing was saved. Your text is kept, and --resume goes on with it.";
     desk_open(&desk);
     steps_between(&steps, &desk.sheet.list, &mine);
     desk_save(&desk, &steps, &claim, who, &kept);

@@ -112,7 +112,6 @@ static void clean(const struct store *store)
 
 static int files_make(struct store *store, const struct sheet *sheet)
 {
-    const char *before = closing;
     struct stat about;
     int there;
 
@@ -124,7 +123,6 @@ static int files_make(struct store *store, const struct sheet *sheet)
     if (!there) {
         log_new(store);
         replace(store, sheet);
-        closing = before;
     }
     place_unlock(&store->place);
     return !there;

@@ -41,7 +41,6 @@ void claim_digits(char digits[DIGITS_MOST], const struct claim *claim)
 
 void desk_open(struct desk *desk)
 {
-    closing = " Nothing was saved.";
     store_open(&desk->store, &desk->sheet, NULL);
 }
 

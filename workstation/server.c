@@ -43,7 +43,7 @@ static void note(struct server *server, const char *said, const char *state)
             server->words[len++] = *said == '\t' ? ' ' : *said;
         else if (said[1])
             server->words[len++] = ';';
-    while (len > 0 && (server->words[len - 1] == '.' || server->words[len - 1] == ' '))
+    while (len > 0 && strchr(". ?", server->words[len - 1]))
         len--;
     server->words[len] = 0;
 }

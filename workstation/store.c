@@ -54,7 +54,11 @@ void store_look(struct store *store, struct sheet *sheet)
 
 int store_make(struct store *store, const struct sheet *sheet)
 {
-    return store->kind->make(store, sheet);
+    int made = store->kind->make(store, sheet);
+
+    if (made)
+        closing = "";
+    return made;
 }
 
 void store_open(struct store *store, struct sheet *sheet, struct luffa_mend_answer *spoiled)
@@ -65,11 +69,13 @@ void store_open(struct store *store, struct sheet *sheet, struct luffa_mend_answ
 void store_save(struct store *store, struct sheet *next, struct entry *entry)
 {
     store->kind->save(store, next, entry);
+    closing = "";
 }
 
 void store_mend(struct store *store, const struct sheet *sheet)
 {
     store->kind->mend(store, sheet);
+    closing = "";
 }
 
 void store_leave(struct store *store)
