@@ -138,8 +138,10 @@ const char *save_from_row(struct entry *entry, uint64_t *number, const PGresult 
         !take(sealed, sizeof sealed, result, row, column + 7))
         return "a save in it isn't one";
     steps_from_bytes(&entry->steps, steps);
-    seal(found, entry, *number, id, name);
-    return memcmp(sealed, found, sizeof sealed) == 0 ? NULL : "a save in it doesn't have the seal that it should";
+    /* What the steps leave unused is zero, or it isn't what was written. */
+    return memcmp(seal(found, entry, *number, id, name), steps, len) == 0 && memcmp(sealed, found, sizeof sealed) == 0
+               ? NULL
+               : "a save in it doesn't have the seal that it should";
 }
 
 #endif
