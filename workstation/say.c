@@ -1,4 +1,5 @@
 /* The functions of say.h. */
+#define _POSIX_C_SOURCE 200809L
 #include "say.h"
 #include "text.h"
 #include <errno.h>
@@ -58,14 +59,30 @@ void print_digest(FILE *to, const uint8_t *digest, size_t n)
     putc('\n', to);
 }
 
+/* A quote within quotes ends them, stands for itself, and begins them again. */
 void put_word(FILE *to, const char *word)
 {
     static const char plain[] = "abcdefghijklmnopqrstuvwxyzABCDEFGHIJKLMNOPQRSTUVWXYZ0123456789-_./:@=";
-    int quoted = !*word || word[strspn(word, plain)];
 
-    fputs(quoted ? "'" : "", to);
-    text_put(to, word);
-    fputs(quoted ? "'" : "", to);
+    if (*word && !word[strspn(word, plain)]) {
+        fputs(word, to);
+        return;
+    }
+    putc('\'', to);
+    while (*word) {
+        size_t len = strcspn(word, "'");
+        char *piece = strndup(word, len);
+
+        if (piece)
+            text_put(to, piece);
+        free(piece);
+        word += len;
+        if (*word == '\'') {
+            fputs("'\\''", to);
+            word++;
+        }
+    }
+    putc('\'', to);
 }
 
 const char *many(uint64_t n)
