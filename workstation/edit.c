@@ -202,8 +202,9 @@ int edit(const char *file, const char *who, int resume)
 
     store_find(&desk.store, file);
     closing = " Nothing was saved.";
-    if (!kept_find(&kept, &desk.store, who))
-        stop_failed(FAILED, "There is no folder for your text of", desk.store.given);
+    kept_find(&kept, &desk.store, who);
+    if (kept.why)
+        stop(FAILED, "There is no folder for your text of %s: %s.", desk.store.given, kept.why);
     if (!place_hold_text(&desk.store.place, who))
         stop(EXISTS, "%s is being edited already.", kept.path);
     if (resume)

@@ -9,19 +9,19 @@
 #include <string.h>
 #include <unistd.h>
 
-int kept_find(struct kept *kept, struct store *store, const char *who)
+void kept_find(struct kept *kept, struct store *store, const char *who)
 {
     char encoded[NAME_IN_FILE(WHO)];
 
     kept->who = who;
     kept->beside = store_texts_beside(store);
-    if (!store_texts(store))
-        return 0;
+    kept->why = store_texts(store) ? NULL : strerror(errno);
+    if (kept->why)
+        return;
     name_in_file(encoded, who);
     if ((size_t)snprintf(kept->name, sizeof kept->name, "%s~%s.csv", store->place.name, encoded) >= sizeof kept->name)
         stop(USAGE, "%s: the name is too long for a text beside it.", store->name);
     snprintf(kept->path, sizeof kept->path, "%s/%s", store->place.folder, kept->name);
-    return 1;
 }
 
 int kept_read(struct kept *kept, const struct store *store)

@@ -12,7 +12,8 @@
 
 struct kept {
     const char *who;
-    int beside; /* the sheet */
+    const char *why; /* there is no place for it; or null */
+    int beside;      /* the sheet */
     char name[NAME_MAX + 1], path[PATH_MAX + NAME_MAX + 2];
     uint8_t text[CSV_MOST + OPENED_MOST + 16]; /* room for the first line before any text */
     size_t len;
@@ -20,8 +21,9 @@ struct kept {
 
 /* Each of these ends the program with a message where it can't be done. */
 
-/* Names the text of a planner. Gives 0 where there is no place for it. */
-int kept_find(struct kept *kept, struct store *store, const char *who);
+/* Names the text of a planner. Where there is no place for it, `why` says so, and nothing else is to be done with it.
+ */
+void kept_find(struct kept *kept, struct store *store, const char *who);
 
 /* Reads it, or gives 0 where there is none; writes it whole, under the lock of its place, or gives 0 where that can't
    be done; removes it, unless it has become another one, which is left and said. */

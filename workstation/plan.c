@@ -155,7 +155,6 @@ static int run_save(void)
     char opened[OPENED_MOST];
     struct claim claim, said;
     const char *name = who();
-    int keeps;
 
     closing = " Nothing was saved.";
     claim_read(&claim, arguments[1]);
@@ -165,7 +164,7 @@ static int run_save(void)
     if (opened[0] && (said.len != claim.len || memcmp(said.bytes, claim.bytes, claim.len) != 0))
         stop(USAGE, "%s was opened under another digest than the claim.", arguments[2]);
     store_find(&desk.store, arguments[0]);
-    keeps = kept_find(&kept, &desk.store, name);
+    kept_find(&kept, &desk.store, name);
     claim_digits(opened, &claim);
     kept_from_text(&kept, text.bytes, text.len, opened);
     /* What changes is told of the sheet that the planner has seen, and of no other. */
@@ -176,9 +175,9 @@ static int run_save(void)
     }
     desk_open(&desk);
     steps_between(&steps, &desk.sheet.list, &list);
-    desk_save(&desk, &steps, &claim, name, keeps ? &kept : NULL);
+    desk_save(&desk, &steps, &claim, name, &kept);
     /* What was kept of the same text when it was turned away is saved now. */
-    if (keeps && kept_there(&kept, &desk.store) == 1)
+    if (!kept.why && kept_there(&kept, &desk.store) == 1)
         kept_remove(&kept, &desk.store);
     return desk_answer(&desk);
 }

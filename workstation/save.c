@@ -137,8 +137,10 @@ static void tell_where(const struct luffa_sheet_where *where, const struct list 
 /* Keeps the planner's text, but never over another one of the same planner. Gives null, or why it isn't kept. */
 static const char *keep(struct store *store, const struct kept *own)
 {
-    int found = kept_there(own, store);
+    int found = own->why ? -1 : kept_there(own, store);
 
+    if (own->why)
+        return own->why;
     if (found == 0)
         return "an earlier one is, which you save or remove first";
     return found == 1 || kept_write(own, store) ? NULL : strerror(errno);
