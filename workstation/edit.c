@@ -132,9 +132,9 @@ static void edit_text(void)
         leave(DAMAGED);
 }
 
-/* Writes the text under the digest of the sheet as it is now, which is what the planner sees, and under that of the
+/* Makes the text under the digest of the sheet as it is now, which is what the planner sees, and under that of the
    sheet first opened, where it is another. */
-static void write_text(const struct list *text, const char *first)
+static void make_text(const struct list *text, const char *first)
 {
     digest_digits(line_opened, &desk.sheet);
     if (first[0] && strcmp(first, line_opened) != 0) {
@@ -142,15 +142,18 @@ static void write_text(const struct list *text, const char *first)
         strcat(line_opened, first);
     }
     kept_from_list(&kept, text, line_opened);
-    if (!kept_write(&kept, &desk.store))
-        stop_failed(FAILED, "Can't write", kept.path);
 }
 
 static void open_new(void)
 {
-    if (kept_read(&kept, &desk.store))
+    enum written answer;
+
+    make_text(&desk.sheet.list, "");
+    answer = kept_write_new(&kept, &desk.store);
+    if (answer == NOT_WRITTEN)
+        stop_failed(FAILED, "Can't write", kept.path);
+    if (answer != WRITTEN)
         stop(EXISTS, "An earlier text of yours is kept in %s. Go on with it by --resume, or remove it.", kept.path);
-    write_text(&desk.sheet.list, "");
 }
 
 /* The list that the sheet had under a digest. */
@@ -181,8 +184,11 @@ static void open_kept(const char *said)
     if (lay(&since_first, &first_list, &laid.list, &desk.sheet.list))
         lay_add(&laid, &since_first);
     /* Where nothing of the text is left to save, and not because others have saved the same, it stays as it is. */
-    if (laid.both_n == 0 || !same_list(&laid.list, &desk.sheet.list))
-        write_text(&laid.list, first);
+    if (laid.both_n > 0 && same_list(&laid.list, &desk.sheet.list))
+        return;
+    make_text(&laid.list, first);
+    if (!kept_write(&kept, &desk.store))
+        stop_failed(FAILED, "Can't write", kept.path);
 }
 
 /* Reads the text that was kept until it can be read; meanwhile nobody else has to wait. */

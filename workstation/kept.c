@@ -40,21 +40,34 @@ int kept_read(struct kept *kept, const struct store *store)
     return 1;
 }
 
-/* Its name is on the disk too before the planner is told of it. Who holds the lock of a sheet in a file holds that of
-   the place. */
+/* Who writes or removes holds the lock of the place. Who holds the lock of a sheet in a file holds that already. */
+static int lock(struct place *place)
+{
+    int held = place->locked;
+
+    if (!held)
+        place_lock(place);
+    return held;
+}
+
+static void unlock(struct place *place, int held)
+{
+    int error = errno;
+
+    if (!held)
+        place_unlock(place);
+    errno = error;
+}
+
+/* Its name is on the disk too before the planner is told of it. */
 int kept_write(const struct kept *kept, struct store *store)
 {
     struct place *place = &store->place;
-    int locked = place->locked, written, error;
+    int held = lock(place), written;
 
-    if (!locked)
-        place_lock(place);
-    written = (locked || place_clean(place)) && place_put(place, kept->name, 0, 0, kept->text, kept->len) &&
-              fsync(place->directory) == 0;
-    error = errno;
-    if (!locked)
-        place_unlock(place);
-    errno = error;
+    written =
+        place_clean(place) && place_put(place, kept->name, 0, 0, kept->text, kept->len) && fsync(place->directory) == 0;
+    unlock(place, held);
     return written;
 }
 
@@ -68,11 +81,25 @@ int kept_there(const struct kept *kept, const struct store *store)
     return there.len == kept->len && memcmp(there.text, kept->text, kept->len) == 0;
 }
 
-void kept_remove(const struct kept *kept, const struct store *store)
+enum written kept_write_new(const struct kept *kept, struct store *store)
 {
-    int found = kept_there(kept, store);
+    int held = lock(&store->place), found = kept_there(kept, store);
+    enum written answer = found == 1                ? THERE_ALREADY
+                          : found == 0              ? ANOTHER_THERE
+                          : kept_write(kept, store) ? WRITTEN
+                                                    : NOT_WRITTEN;
 
-    if (found < 0 || (found == 1 && unlinkat(store->place.directory, kept->name, 0) == 0))
+    unlock(&store->place, held);
+    return answer;
+}
+
+void kept_remove(const struct kept *kept, struct store *store)
+{
+    int held = lock(&store->place), found = kept_there(kept, store),
+        removed = found == 1 && unlinkat(store->place.directory, kept->name, 0) == 0;
+
+    unlock(&store->place, held);
+    if (found < 0 || removed)
         return;
     fprintf(stderr, "plan: ");
     text_put(stderr, kept->name);

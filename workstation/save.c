@@ -137,13 +137,16 @@ static void tell_where(const struct luffa_sheet_where *where, const struct list 
 /* Keeps the planner's text, but never over another one of the same planner. Gives null, or why it isn't kept. */
 static const char *keep(struct store *store, const struct kept *own)
 {
-    int found = own->why ? -1 : kept_there(own, store);
-
     if (own->why)
         return own->why;
-    if (found == 0)
+    switch (kept_write_new(own, store)) {
+    case ANOTHER_THERE:
         return "an earlier one is, which you save or remove first";
-    return found == 1 || kept_write(own, store) ? NULL : strerror(errno);
+    case NOT_WRITTEN:
+        return strerror(errno);
+    default:
+        return NULL;
+    }
 }
 
 /* The sheet that a stale planner opened is the one that had the claimed digest, which the log has. The entries that

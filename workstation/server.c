@@ -38,11 +38,11 @@ static void note(struct server *server, const char *said, const char *state)
     size_t len = 0;
 
     snprintf(server->state, sizeof server->state, "%s", state ? state : "");
-    for (; said && *said && len + 1 < sizeof server->words; said++)
+    for (; said && *said && len + 3 < sizeof server->words; said++)
         if (*said != '\n')
             server->words[len++] = *said == '\t' ? ' ' : *said;
         else if (said[1])
-            server->words[len++] = ';';
+            len += (size_t)snprintf(server->words + len, sizeof server->words - len - 1, said[1] == '\t' ? ";" : "; ");
     while (len > 0 && strchr(". ?", server->words[len - 1]))
         len--;
     server->words[len] = 0;
@@ -56,7 +56,7 @@ void server_find(struct server *server, const struct url *url)
 
     PQfreemem(said);
     if (!read)
-        stop(USAGE, "%s can't be understood: one of its parts isn't as libpq takes it.", url->shown);
+        stop(USAGE, "The name can't be understood: one of its parts isn't as libpq takes it.");
     PQconninfoFree(read);
     server->uri = url->uri;
     server->shown = url->shown;

@@ -3,6 +3,7 @@
 #include "store.h"
 #include "say.h"
 #include <string.h>
+#include <strings.h>
 
 /* The names that libpq takes for a database's. */
 static int in_database(const char *sheet)
@@ -10,8 +11,17 @@ static int in_database(const char *sheet)
     return strncmp(sheet, "postgresql://", 13) == 0 || strncmp(sheet, "postgres://", 11) == 0;
 }
 
+/* What was meant for one, and is mistyped, may have a password in it: it isn't taken for a file's name, and told. */
+static void check_mistyped(const char *sheet)
+{
+    if (strstr(sheet, "://") || (strncasecmp(sheet, "postgres", 8) == 0 && strchr(sheet, ':')))
+        stop(USAGE, "The name of a sheet in a database begins with postgresql://, and no other may have :// in it.");
+}
+
 static void find(struct store *store, const char *sheet, int is_new)
 {
+    if (!in_database(sheet))
+        check_mistyped(sheet);
     memset(store, 0, sizeof *store);
     store->kind = in_database(sheet) ? &database_kind : &files_kind;
     store->kind->find(store, sheet, is_new);

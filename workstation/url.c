@@ -79,6 +79,24 @@ static void add_shown(char *to, const char *query)
     *to = 0;
 }
 
+/* Refuses what libpq would take for something else than was meant, and name in its words: what may be a part of a
+   password is then never shown. */
+static void check_parts(const char *authority, const char *path, const char *end, int has_sheet)
+{
+    const char *at = memchr(authority, '@', (size_t)(path - authority)), *host = at ? at + 1 : authority;
+
+    if (memchr(host, '@', (size_t)(end - host)))
+        not_so(has_sheet, "An @ in a name or a password is to be written %40");
+    while (host < path) {
+        size_t len = strcspn(host, ",/?"), name = host[0] == '[' ? strcspn(host, "],/?") : strcspn(host, ":,/?");
+        const char *port = host + name + (host[name] == ']');
+
+        if (port < host + len && (*port != ':' || strspn(port + 1, "0123456789") != (size_t)(host + len - port) - 1))
+            not_so(has_sheet, "A port is digits alone");
+        host += len + (host[len] == ',');
+    }
+}
+
 void url_read(struct url *url, const char *given, int has_sheet)
 {
     const char *authority = strstr(given, "://"), *path, *at, *colon, *query, *sheet;
@@ -92,6 +110,7 @@ void url_read(struct url *url, const char *given, int has_sheet)
     if (path == query || path + 1 == query || path[1] == '/')
         not_so(has_sheet, "No database is named");
     sheet = path + 1 + strcspn(path + 1, "/?");
+    check_parts(authority, path, sheet, has_sheet);
     if (has_sheet && sheet == query)
         not_so(1, "No sheet is named");
     if (!has_sheet && sheet < query)
