@@ -58,16 +58,16 @@ static int try_row(struct server *server, const char *statement, const struct va
 int64_t ask(struct server *server, const char *name, const uint8_t id[ID])
 {
     struct values values = {0};
-    int64_t number = -1, unused;
+    int64_t number = NOT_ASKED, unused;
     int rows;
 
     values_text(&values, name);
     if (!server_try_begin(server) ||
         (rows = try_row(server, "SELECT saves FROM plan.sheets WHERE name = $1 FOR UPDATE", &values, &unused)) < 0)
-        return -1;
+        return server_has_no_tables(server) ? NO_SHEET : NOT_ASKED;
     if (rows == 0) {
         snprintf(server->words, sizeof server->words, "the database has no such sheet");
-        return -1;
+        return NO_SHEET;
     }
     values_bytes(&values, id, ID);
     rows = try_row(server, "SELECT number FROM plan.saves WHERE sheet = $1 AND id = $2", &values, &number);

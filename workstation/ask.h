@@ -12,8 +12,10 @@ void id_draw(uint8_t id[ID]);
 void id_digits(char digits[ID_DIGITS], const uint8_t id[ID]);
 int id_read(uint8_t id[ID], const char *digits);
 
-/* Asks for the save of an id of a sheet: its number, or 0 where it wasn't accepted and will not be, or -1 where it
-   can't be asked. The second tries again and again over new connections, for PLAN_PATIENCE seconds, 30 unless said. */
+/* Asks for the save of an id of a sheet: its number, or 0 where it wasn't accepted and will not be; NOT_ASKED where it
+   can't be asked, and NO_SHEET where the database has no such sheet. The second tries again and again over new
+   connections, for PLAN_PATIENCE seconds, 30 unless said. */
+enum { NOT_ASKED = -1, NO_SHEET = -2 };
 int64_t ask(struct server *server, const char *name, const uint8_t id[ID]);
 int64_t ask_patiently(struct server *server, const char *name, const uint8_t id[ID]);
 

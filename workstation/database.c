@@ -238,7 +238,8 @@ static void ask_again(struct store *store, const uint8_t id[ID])
     fprintf(stderr, "plan: The connection was lost at the commit, and the server can't be asked: ");
     text_put(stderr, server->words);
     fprintf(stderr,
-            ". Whether the save was accepted isn't known yet. Ask when the server is there again:\n  plan ask ");
+            ". Whether the save was accepted isn't known yet.%s Ask when the server is there again:\n  plan ask ",
+            going_on);
     put_word(stderr, store->given);
     fprintf(stderr, " %s\n", digits);
     exit(UNKNOWN);
@@ -331,8 +332,10 @@ static uint64_t database_ask(struct store *store, const char *digits)
     if (!id_read(id, digits))
         stop(USAGE, "%s isn't the id of a save: it has 32 hexadecimal digits.", digits);
     number = ask(server, store->database->url.name, id);
-    if (number < 0)
+    if (number == NO_SHEET)
         server_stop(server, "Can't ask");
+    if (number == NOT_ASKED)
+        stop(UNKNOWN, "Can't ask %s: %s. Whether the save was accepted isn't known.", store->name, server->words);
     return (uint64_t)number;
 }
 

@@ -86,12 +86,22 @@ static void run_editor(void)
     }
 }
 
+/* Reads the file of the text. Gives 0 where there is none. */
+static int read_file(void)
+{
+    int found = kept_read(&kept, &desk.store);
+
+    if (found < 0)
+        stop_failed(FAILED, "Can't read", kept.path);
+    return found;
+}
+
 /* Reads the text. Gives 0 where it has a fault, which is said. `wanted` is what its line `opened` has, or null. */
 static int read_text(char said[OPENED_MOST], const char *wanted)
 {
     struct csv_fault fault = {.line = 1, .column = 1};
 
-    if (!kept_read(&kept, &desk.store))
+    if (!read_file())
         stop(FAILED, "%s is gone.", kept.path);
     if (csv_read(&mine, said, kept.text, kept.len, &fault)) {
         if (said[0] && (!wanted || strcmp(said, wanted) == 0))
@@ -194,7 +204,7 @@ static void open_kept(const char *said)
 /* Reads the text that was kept until it can be read; meanwhile nobody else has to wait. */
 static void read_kept(char said[OPENED_MOST])
 {
-    if (!kept_read(&kept, &desk.store))
+    if (!read_file())
         stop(FAILED, "No text of yours is kept in %s.", kept.path);
     while (!read_text(said, NULL))
         again_or_leave();
@@ -205,13 +215,17 @@ int edit(const char *file, const char *who, int resume)
     static struct steps steps;
     char said[OPENED_MOST];
     struct claim claim;
+    int held;
 
     store_find(&desk.store, file);
     closing = " Nothing was saved.";
     kept_find(&kept, &desk.store, who);
     if (kept.why)
         stop(FAILED, "There is no folder for your text of %s: %s.", desk.store.given, kept.why);
-    if (!place_hold_text(&desk.store.place, who))
+    held = place_hold_text(&desk.store.place, who);
+    if (held < 0)
+        stop_failed(FAILED, "Can't lock", desk.store.place.lock_name);
+    if (!held)
         stop(EXISTS, "%s is being edited already.", kept.path);
     if (resume)
         read_kept(said);
@@ -239,7 +253,7 @@ int edit(const char *file, const char *who, int resume)
     }
     line_opened[strcspn(line_opened, ",")] = 0;
     claim_read(&claim, line_opened);
-    closing = " Nothing was saved. Your text is kept, and --resume goes on with it.";
+    going_on = " Your text is kept, and --resume goes on with it.";
     desk_open(&desk);
     steps_between(&steps, &desk.sheet.list, &mine);
     desk_save(&desk, &steps, &claim, who, &kept);

@@ -30,31 +30,28 @@ int kept_read(struct kept *kept, const struct store *store)
     int fd = openat(store->place.directory, kept->name, O_RDONLY | O_CLOEXEC | O_NONBLOCK);
     ssize_t got;
 
-    if (fd < 0 && errno == ENOENT)
-        return 0;
+    if (fd < 0)
+        return errno == ENOENT ? 0 : -1;
     /* More than a text may have is read, so that a longer one is seen to be one. */
-    if (fd < 0 || (got = read_all(fd, kept->text, sizeof kept->text)) < 0)
-        stop_failed(FAILED, "Can't read", kept->name);
+    got = read_all(fd, kept->text, sizeof kept->text);
     close(fd);
-    kept->len = (size_t)got;
-    return 1;
+    kept->len = got < 0 ? 0 : (size_t)got;
+    return got < 0 ? -1 : 1;
 }
 
 /* Who writes or removes holds the lock of the place. Who holds the lock of a sheet in a file holds that already. */
-static int lock(struct place *place)
-{
-    int held = place->locked;
+enum hold { NOT_HELD, HELD_NOW, HELD_BEFORE };
 
-    if (!held)
-        place_lock(place);
-    return held;
+static enum hold lock(struct place *place)
+{
+    return place->locked ? HELD_BEFORE : place_try_lock(place) ? HELD_NOW : NOT_HELD;
 }
 
-static void unlock(struct place *place, int held)
+static void unlock(struct place *place, enum hold hold)
 {
     int error = errno;
 
-    if (!held)
+    if (hold == HELD_NOW)
         place_unlock(place);
     errno = error;
 }
@@ -63,47 +60,52 @@ static void unlock(struct place *place, int held)
 int kept_write(const struct kept *kept, struct store *store)
 {
     struct place *place = &store->place;
-    int held = lock(place), written;
+    enum hold hold = lock(place);
+    int written = hold && place_clean(place) && place_put(place, kept->name, 0, 0, kept->text, kept->len) &&
+                  fsync(place->directory) == 0;
 
-    written =
-        place_clean(place) && place_put(place, kept->name, 0, 0, kept->text, kept->len) && fsync(place->directory) == 0;
-    unlock(place, held);
+    unlock(place, hold);
     return written;
 }
 
 int kept_there(const struct kept *kept, const struct store *store)
 {
     static struct kept there;
+    int found;
 
     memcpy(there.name, kept->name, sizeof there.name);
-    if (!kept_read(&there, store))
+    found = kept_read(&there, store);
+    if (found == 0)
         return -1;
-    return there.len == kept->len && memcmp(there.text, kept->text, kept->len) == 0;
+    return found == 1 && there.len == kept->len && memcmp(there.text, kept->text, kept->len) == 0;
 }
 
 enum written kept_write_new(const struct kept *kept, struct store *store)
 {
-    int held = lock(&store->place), found = kept_there(kept, store);
-    enum written answer = found == 1                ? THERE_ALREADY
-                          : found == 0              ? ANOTHER_THERE
-                          : kept_write(kept, store) ? WRITTEN
-                                                    : NOT_WRITTEN;
+    enum hold hold = lock(&store->place);
+    int found = hold ? kept_there(kept, store) : -1;
+    enum written answer = NOT_WRITTEN;
 
-    unlock(&store->place, held);
+    if (found >= 0)
+        answer = found == 1 ? THERE_ALREADY : ANOTHER_THERE;
+    else if (hold && kept_write(kept, store))
+        answer = WRITTEN;
+    unlock(&store->place, hold);
     return answer;
 }
 
 void kept_remove(const struct kept *kept, struct store *store)
 {
-    int held = lock(&store->place), found = kept_there(kept, store),
-        removed = found == 1 && unlinkat(store->place.directory, kept->name, 0) == 0;
+    enum hold hold = lock(&store->place);
+    int found = kept_there(kept, store),
+        removed = hold && found == 1 && unlinkat(store->place.directory, kept->name, 0) == 0;
 
-    unlock(&store->place, held);
+    unlock(&store->place, hold);
     if (found < 0 || removed)
         return;
     fprintf(stderr, "plan: ");
     text_put(stderr, kept->name);
-    fprintf(stderr, found == 0 ? " was written again meanwhile, and is left there.\n" : " can't be removed.\n");
+    fprintf(stderr, found == 0 ? " has become another text, and is left there.\n" : " can't be removed.\n");
 }
 
 void kept_from_list(struct kept *kept, const struct list *list, const char *opened)

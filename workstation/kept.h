@@ -25,8 +25,9 @@ struct kept {
  */
 void kept_find(struct kept *kept, struct store *store, const char *who);
 
-/* Reads it, or gives 0 where there is none; writes it whole in the place of the one that is there, or gives 0 where
-   that can't be done; removes it, unless it has become another one, which is left and said. */
+/* Reads it, or gives 0 where there is none, and -1 where it can't be read; writes it whole in the place of the one that
+   is there, or gives 0 where that can't be done; removes it, unless it has become another one, which is left and said.
+ */
 int kept_read(struct kept *kept, const struct store *store);
 int kept_write(const struct kept *kept, struct store *store);
 void kept_remove(const struct kept *kept, struct store *store);
@@ -36,7 +37,7 @@ void kept_remove(const struct kept *kept, struct store *store);
 enum written { WRITTEN, THERE_ALREADY, ANOTHER_THERE, NOT_WRITTEN };
 enum written kept_write_new(const struct kept *kept, struct store *store);
 
-/* Whether just this text is there: 1; another one: 0; none: -1. */
+/* Whether just this text is there: 1; another one, or one that can't be read: 0; none: -1. */
 int kept_there(const struct kept *kept, const struct store *store);
 
 /* Makes it the text of a list that was opened under a digest; or, as it stands, another text of CSV_MOST bytes at most

@@ -97,18 +97,23 @@ static int lock_byte(struct place *place, off_t at, short type, int command)
     if (place->lock < 0)
         place->lock = openat(place->directory, place->lock_name, O_RDWR | O_CREAT | O_CLOEXEC, 0666);
     if (place->lock < 0)
-        stop_failed(FAILED, "Can't open", place->lock_name);
+        return 0;
     while (fcntl(place->lock, command, &byte) != 0)
         if (errno != EINTR)
             return 0;
     return 1;
 }
 
+int place_try_lock(struct place *place)
+{
+    place->locked = lock_byte(place, 0, F_WRLCK, F_SETLKW);
+    return place->locked;
+}
+
 void place_lock(struct place *place)
 {
-    if (!lock_byte(place, 0, F_WRLCK, F_SETLKW))
+    if (!place_try_lock(place))
         stop_failed(FAILED, "Can't lock", place->lock_name);
-    place->locked = 1;
 }
 
 void place_unlock(struct place *place)
@@ -123,7 +128,9 @@ int place_hold_text(struct place *place, const char *who)
     uint8_t digest[LUFFA_256_BYTES];
 
     luffa_digest(LUFFA_256, (const uint8_t *)who, strlen(who), digest, sizeof digest);
-    return lock_byte(place, (off_t)(1 + get_number(digest, 7)), F_WRLCK, F_SETLK);
+    if (lock_byte(place, (off_t)(1 + get_number(digest, 7)), F_WRLCK, F_SETLK))
+        return 1;
+    return errno == EACCES || errno == EAGAIN ? 0 : -1;
 }
 
 /* Only the holder of the lock writes such a file, and it has written none yet: those that are there are leftovers. */

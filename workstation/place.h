@@ -25,11 +25,14 @@ int place_open(struct place *place, const char *folder, const char *name);
 int place_open_own(struct place *place, const char *name);
 void place_close(struct place *place);
 
-/* Waits for the lock, which is held until it is let go or the program ends. Ends the program where it can't be had. */
+/* Waits for the lock, which is held until it is let go or the program ends. The second gives 0 where it can't be had,
+   the first ends the program then. */
 void place_lock(struct place *place);
+int place_try_lock(struct place *place);
 void place_unlock(struct place *place);
 
-/* Holds the text of a planner until the program ends. Gives 0 where another program does. */
+/* Holds the text of a planner until the program ends. Gives 0 where another program does, and -1 where it can't be
+   had. */
 int place_hold_text(struct place *place, const char *who);
 
 /* Under the lock: removes what writers that were killed have left; and puts bytes whole under a name, with the mode and

@@ -1,5 +1,4 @@
 /* The functions of say.h. */
-#define _POSIX_C_SOURCE 200809L
 #include "say.h"
 #include "text.h"
 #include <errno.h>
@@ -9,7 +8,7 @@
 #include <stdlib.h>
 #include <string.h>
 
-const char *closing = "";
+const char *closing = "", *going_on = "";
 
 void stop(int status, const char *words, ...)
 {
@@ -22,7 +21,7 @@ void stop(int status, const char *words, ...)
     va_end(arguments);
     fputs("plan: ", stderr);
     text_put(stderr, message);
-    fprintf(stderr, "%s\n", closing);
+    fprintf(stderr, "%s%s\n", closing, going_on);
     exit(status);
 }
 
@@ -59,30 +58,29 @@ void print_digest(FILE *to, const uint8_t *digest, size_t n)
     putc('\n', to);
 }
 
-/* A quote within quotes ends them, stands for itself, and begins them again. */
+/* Within '..' all but a quote stands for itself; what can't be shown is escaped within $'..'. */
 void put_word(FILE *to, const char *word)
 {
     static const char plain[] = "abcdefghijklmnopqrstuvwxyzABCDEFGHIJKLMNOPQRSTUVWXYZ0123456789-_./:@=";
+    size_t n = strlen(word), backslashes = 0;
+    char *text = malloc(TEXT_MOST(n));
+    int as_it_is;
 
-    if (*word && !word[strspn(word, plain)]) {
+    if (n > 0 && word[strspn(word, plain)] == 0) {
         fputs(word, to);
-        return;
+    } else if (text) {
+        for (size_t i = 0; i < n; i++)
+            backslashes += word[i] == '\\';
+        as_it_is = text_from_bytes(text, (const uint8_t *)word, n) == n + backslashes;
+        fputs(as_it_is ? "'" : "$'", to);
+        for (const char *c = as_it_is ? word : text; *c; c++)
+            if (*c == '\'')
+                fputs(as_it_is ? "'\\''" : "\\'", to);
+            else
+                putc(*c, to);
+        putc('\'', to);
     }
-    putc('\'', to);
-    while (*word) {
-        size_t len = strcspn(word, "'");
-        char *piece = strndup(word, len);
-
-        if (piece)
-            text_put(to, piece);
-        free(piece);
-        word += len;
-        if (*word == '\'') {
-            fputs("'\\''", to);
-            word++;
-        }
-    }
-    putc('\'', to);
+    free(text);
 }
 
 const char *many(uint64_t n)

@@ -17,8 +17,8 @@ enum status {
     UNKNOWN = 76       /* the connection was lost at the commit: whether it was saved isn't known */
 };
 
-/* What a message ends with: for a save, that nothing was saved. */
-extern const char *closing;
+/* What a message ends with: for a save, that nothing was saved; and how to go on with a text. */
+extern const char *closing, *going_on;
 
 /* Prints a message and ends. With it ends the hold on the lock. */
 #if defined(__GNUC__)

@@ -143,9 +143,14 @@ PGresult *server_try(struct server *server, const char *statement, const struct 
 }
 
 /* A database in which `plan init` wasn't run has no schema, or no tables in it. */
+int server_has_no_tables(const struct server *server)
+{
+    return strcmp(server->state, "3F000") == 0 || strcmp(server->state, "42P01") == 0;
+}
+
 void server_stop(const struct server *server, const char *doing)
 {
-    if (strcmp(server->state, "3F000") == 0 || strcmp(server->state, "42P01") == 0)
+    if (server_has_no_tables(server))
         stop(FAILED, "%s %s: the database isn't made for sheets yet; `plan init` does it.", doing, server->shown);
     stop(FAILED, "%s %s: %s.", doing, server->shown, server->words);
 }
@@ -178,12 +183,12 @@ static int tried(struct server *server, const char *statement)
     return result != NULL;
 }
 
-/* A saver holds the lock for milliseconds: one of whom nothing is heard for ten seconds is gone. A server that was told
-   not to wait for its disk waits for it here. */
+/* It doesn't ask to write: a database that is set to be read only, as before it is moved, stays so. A saver holds the
+   lock for milliseconds: one of whom nothing is heard for ten seconds is gone. A server that was told not to wait for
+   its disk waits for it here. */
 int server_try_begin(struct server *server)
 {
-    return server_connect(server) && tried(server, "BEGIN ISOLATION LEVEL READ COMMITTED READ WRITE") &&
-           (server->begun = 1) &&
+    return server_connect(server) && tried(server, "BEGIN ISOLATION LEVEL READ COMMITTED") && (server->begun = 1) &&
            tried(server, "SELECT set_config('idle_in_transaction_session_timeout', '10s', true), "
                          "set_config('lock_timeout', '60s', true), set_config('synchronous_commit', "
                          "CASE current_setting('synchronous_commit') WHEN 'off' THEN 'on' "

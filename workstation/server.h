@@ -41,6 +41,9 @@ void server_leave(struct server *server);
 PGresult *server_try(struct server *server, const char *statement, const struct values *values);
 PGresult *server_ask(struct server *server, const char *doing, const char *statement, const struct values *values);
 
+/* Whether it failed as the database has no tables for sheets. */
+int server_has_no_tables(const struct server *server);
+
 /* That end. */
 #if defined(__GNUC__)
 __attribute__((noreturn))

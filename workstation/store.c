@@ -79,7 +79,7 @@ void store_open(struct store *store, struct sheet *sheet, struct luffa_mend_answ
 void store_save(struct store *store, struct sheet *next, struct entry *entry)
 {
     store->kind->save(store, next, entry);
-    closing = "";
+    closing = going_on = "";
 }
 
 void store_mend(struct store *store, const struct sheet *sheet)
