@@ -176,7 +176,7 @@ static void commit_again(struct store *store, const char *what)
 
     if (answer == REFUSED)
         stop(FAILED, "%s %s: %s.", saving, store->name, server->words);
-    if (answer == DONE)
+    if (answer != LOST)
         return;
     closing = "";
     stop(UNKNOWN, "The connection was lost at the commit: whether %s isn't known. Give the command again.", what);
@@ -264,6 +264,9 @@ static void database_save(struct store *store, struct sheet *next, struct entry 
         stop(FAILED, "%s %s: %s.", saving, store->name, database->server.words);
     if (answer == LOST)
         ask_again(store, id);
+    closing = going_on = "";
+    if (answer == UNCONFIRMED)
+        stop(UNSURE, "Saved, but the server warns: %s.", database->server.words);
 }
 
 static void database_mend(struct store *store, const struct sheet *sheet)

@@ -68,12 +68,11 @@ int init(const char *database)
     answer = server_commit(&server);
     if (answer == REFUSED)
         server_stop(&server, making);
-    if (answer == LOST) {
-        closing = "";
+    closing = "";
+    if (answer == LOST)
         stop(UNKNOWN,
              "The connection was lost at the commit: whether the tables are made isn't known. Give the command "
              "again.");
-    }
     server_leave(&server);
     free(url.uri);
     free(url.shown);

@@ -90,7 +90,8 @@ static const char *who(void)
 }
 
 /* Makes the sheet, empty. Where there is one it is left alone, but for one that has never been saved and is to be
-   filled: it is what a `new` that was killed before it could do so has left. */
+   filled: it is what a `new` that was killed before it could do so has left. (Where that one is only slower, one of the
+   two is told that the sheet has changed.) */
 static void make_empty(int to_be_filled)
 {
     static struct sheet there;

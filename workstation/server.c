@@ -26,12 +26,6 @@ void values_number(struct values *values, size_t bytes, int64_t number)
     values_bytes(values, values->numbers[values->n], bytes);
 }
 
-/* What the server remarks on its way isn't for the planner. */
-static void quiet(void *unused, const char *remark)
-{
-    (void)unused, (void)remark;
-}
-
 /* Keeps what was said of a failure: lines become one, without a full stop at the end. */
 static void note(struct server *server, const char *said, const char *state)
 {
@@ -46,6 +40,17 @@ static void note(struct server *server, const char *said, const char *state)
     while (len > 0 && strchr(". ?", server->words[len - 1]))
         len--;
     server->words[len] = 0;
+}
+
+/* What the server remarks on its way isn't for the planner; what it warns of may be. */
+static void on_remark(void *server, const PGresult *remark)
+{
+    const char *severity = PQresultErrorField(remark, PG_DIAG_SEVERITY_NONLOCALIZED);
+
+    if (!severity || strcmp(severity, "WARNING") != 0)
+        return;
+    ((struct server *)server)->warned = 1;
+    note(server, PQresultErrorField(remark, PG_DIAG_MESSAGE_PRIMARY), "");
 }
 
 /* What libpq says of a name that it can't read may have the password in it, and isn't said. */
@@ -94,7 +99,7 @@ int server_connect(struct server *server)
     used = server;
     server->connection = PQconnectdbParams(keywords, values, 1);
     if (server->connection && PQstatus(server->connection) == CONNECTION_OK) {
-        PQsetNoticeProcessor(server->connection, quiet, NULL);
+        PQsetNoticeReceiver(server->connection, on_remark, server);
         return 1;
     }
     note(server, server->connection ? PQerrorMessage(server->connection) : "out of memory", "");
@@ -205,18 +210,25 @@ void server_begin(struct server *server, const char *doing)
    is being shut down, leaves it open. */
 enum commit server_commit(struct server *server)
 {
-    PGresult *result = make(server, "COMMIT", NULL);
-    const char *severity = PQresultErrorField(result, PG_DIAG_SEVERITY_NONLOCALIZED);
     enum commit answer = LOST;
+    const char *severity;
+    PGresult *result;
 
-    if (result && done(result))
-        answer = strcmp(PQcmdStatus(result), "COMMIT") == 0 ? DONE : REFUSED;
-    else if (PQstatus(server->connection) == CONNECTION_OK && severity && strcmp(severity, "ERROR") == 0)
-        answer = REFUSED;
-    if (answer != DONE)
+    server->warned = server->begun = 0;
+    result = make(server, "COMMIT", NULL);
+    severity = PQresultErrorField(result, PG_DIAG_SEVERITY_NONLOCALIZED);
+    if (result && done(result)) {
+        answer = server->warned ? UNCONFIRMED : DONE;
+        if (strcmp(PQcmdStatus(result), "COMMIT") != 0) {
+            note(server, "the server has undone it", "");
+            answer = REFUSED;
+        }
+    } else {
+        if (PQstatus(server->connection) == CONNECTION_OK && severity && strcmp(severity, "ERROR") == 0)
+            answer = REFUSED;
         note_result(server, result);
+    }
     PQclear(result);
-    server->begun = 0;
     return answer;
 }
 
