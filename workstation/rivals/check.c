@@ -1,11 +1,12 @@
 /*
  * The check of the trial: a plain list is what a sheet should be. It shares nothing with the workstation
- * but the archive, and reads the two files by offsets of its own.
+ * but the archive, and reads the two files by offsets of its own. Of a database the rows come as such files.
  *
  * The sheet's file says how many saves were accepted and how many bytes of the log are theirs, and the log
- * which they are: its first entries (log.h says why). That is believed only as far as the rivals' own notes
- * bear it out: what a rival was told is accepted must be there, what it was told is refused must not, and of
- * what was killed only the log knows.
+ * which they are: its first entries (log.h says why); a database has no other entries. That is believed only
+ * as far as the rivals' own notes bear it out: what a rival was told is accepted must be there, what it was
+ * told is refused or lost must not, and of what was killed only the log knows. Of what wasn't known at first
+ * the log decides too, and who asked by its id was told the same.
  */
 #include "rivals.h"
 #include <stdarg.h>
@@ -15,24 +16,33 @@
 #include <time.h>
 
 enum { HEAD = 136, SEALED = 104, ENTRY_HEAD = 104, STEP = 48, BATCH_MOST = LUFFA_CHANGES_MOST, KINDS_FROM = 60 };
+enum { ID = 16, ROW = ID + 8 + LUFFA_256_BYTES, ENTRY_MOST = ENTRY_HEAD + STEP * 4096 + DIGEST_MOST };
 
 static struct list list;
 static size_t smallest = LUFFA_SHEET_MOST, largest;
 
-/* The accepted saves in their order: the attempt of each, and the digests before the first and after each. */
+/* The name that the seals of a database cover, or null. */
+static const char *rows;
+
+/* The accepted saves in their order: the attempt of each, the time at which it was certainly accepted, and the digests
+   before the first and after each. */
 static const struct attempt **order;
+static int64_t *certain;
 static uint8_t (*digests)[DIGEST_MOST];
 static size_t accepted;
 
-/* The two files, and for each attempt how often it was accepted. All this is kept until the program ends. */
-static uint8_t *sheet, *save_log;
-static size_t sheet_len, log_len;
+/* The two files, what a database has besides, and for each attempt how often it was accepted. All this is kept until
+   the program ends. */
+static uint8_t *sheet, *save_log, *ids;
+static size_t sheet_len, log_len, ids_len;
 static char *seen[RIVALS_MOST + 1];
 
-/* How many attempts ended in each way; killed ones are counted by whether they had saved. */
-static long done, nothing, stale_group, stale_tail, absent, killed_saved, killed_before;
+/* How many attempts ended in each way; killed ones, and those that weren't known, are counted by whether they had
+   saved; of those that were done or lost, some had asked by their id, and some were lost by no doom of their own. */
+static long done, nothing, stale_group, stale_tail, absent, killed_saved, killed_before, unknown_saved, unknown_before;
+static long done_asked, lost, lost_asked, lost_by_others;
 
-static int wrong(const char *words, ...)
+int wrong(const char *words, ...)
 {
     va_list arguments;
 
@@ -49,24 +59,6 @@ static void *enough(void *memory)
     if (!memory)
         exit(2);
     return memory;
-}
-
-uint8_t *whole(const char *file, const char *end, size_t *len)
-{
-    char path[5200];
-    uint8_t *bytes = NULL;
-    FILE *f;
-
-    snprintf(path, sizeof path, "%s%s", file, end);
-    *len = 0;
-    if (!(f = fopen(path, "rb")))
-        return NULL;
-    for (size_t got = 1; got > 0; *len += got) {
-        bytes = enough(realloc(bytes, *len + 65536));
-        got = fread(bytes + *len, 1, 65536, f);
-    }
-    fclose(f);
-    return bytes;
 }
 
 static int same(const uint8_t *one, const uint8_t *other)
@@ -93,15 +85,33 @@ static int apply(const uint8_t *step)
     return 1;
 }
 
+/* Whether a seal is that of some bytes, and of what a row has behind them in a database. */
+static int sealed(const uint8_t *seal, const uint8_t *bytes, size_t len, const uint8_t *row, size_t row_len)
+{
+    static uint8_t all[ENTRY_MOST + ROW + 256];
+    uint8_t true_seal[LUFFA_256_BYTES];
+    size_t name = rows ? strlen(rows) : 0;
+
+    if (len + row_len + name > sizeof all)
+        return 0;
+    memcpy(all, bytes, len);
+    if (row)
+        memcpy(all + len, row, row_len);
+    if (rows)
+        memcpy(all + len + row_len, rows, name);
+    luffa_digest(LUFFA_256, all, len + row_len + name, true_seal, sizeof true_seal);
+    return memcmp(true_seal, seal, sizeof true_seal) == 0;
+}
+
 /* The final sheet: the list's records, its digest, and the marks that a build gives. */
 static int check_sheet(size_t code)
 {
     static uint32_t marks[LUFFA_MARKS_FOR(LUFFA_SHEET_MOST)];
-    uint8_t built[DIGEST_MOST], seal[LUFFA_256_BYTES];
+    uint8_t built[DIGEST_MOST];
     const uint8_t *at = sheet + HEAD;
 
-    luffa_digest(LUFFA_256, sheet, SEALED, seal, sizeof seal);
-    if (memcmp(sheet, "LufSheet", 8) != 0 || number(sheet + 8, 4) != 2 || memcmp(sheet + SEALED, seal, sizeof seal))
+    if (memcmp(sheet, "LufSheet", 8) != 0 || number(sheet + 8, 4) != 2 ||
+        !sealed(sheet + SEALED, sheet, SEALED, NULL, 0))
         return wrong("the sheet isn't of this form, or its seal isn't true");
     if (number(sheet + 12, 4) != code || number(sheet + 16, 4) != list.n ||
         sheet_len != HEAD + RECORD * list.n + 4 * LUFFA_MARKS_FOR(list.n))
@@ -125,7 +135,7 @@ static int could_have(const uint8_t *digest, int other, int64_t from, int64_t to
     size_t low = 0, high = 0;
 
     for (size_t i = 0; i < accepted; i++) {
-        if (order[i]->saved < from)
+        if (certain[i] < from)
             low = i + 1;
         if (order[i]->saving < to)
             high = i + 1;
@@ -134,6 +144,32 @@ static int could_have(const uint8_t *digest, int other, int64_t from, int64_t to
         if (same(digests[i], digest) != other)
             return 1;
     return 0;
+}
+
+/* A save was accepted when its saver had ended, and before the next one was. A server goes on with what a killed saver
+   has sent, and with what one that lost it has sent: then only the next one bounds it. */
+static void bound(void)
+{
+    for (size_t i = accepted; i-- > 0;)
+        certain[i] = rows && order[i]->end != LUFFA_DONE ? certain[i + 1] : order[i]->saved;
+}
+
+/* What the row of a save has besides its entry: the numbers have no gap, no id comes twice, and the seal is true. */
+static int check_row(const char *who, const struct attempt *a, const uint8_t *entry, size_t len, size_t i)
+{
+    const uint8_t *row = ids + ROW * i;
+    char id[2 * ID + 5] = "";
+
+    if (number(row + ID, 8) != i + 1)
+        return wrong("%s has number %llu, and is save %zu", who, (unsigned long long)number(row + ID, 8), i + 1);
+    for (size_t before = 0; before < i; before++)
+        if (memcmp(ids + ROW * before, row, ID) == 0)
+            return wrong("%s has the id of save %zu", who, before + 1);
+    if (!sealed(row + ID + 8, entry, len, row, ID + 8))
+        return wrong("the seal of %s isn't true", who);
+    for (size_t k = 0; k < ID; k++)
+        sprintf(id + strlen(id), k == 4 || k == 6 || k == 8 || k == 10 ? "-%02x" : "%02x", row[k]);
+    return a->id[0] && strcmp(a->id, id) != 0 ? wrong("%s was told another id than its save has", who) : 0;
 }
 
 /* The attempt that an entry names, which must not have been accepted before. Gives null where there is none. */
@@ -184,7 +220,7 @@ static int fold(size_t code, const struct shared *shared, int rivals)
         a = attempt_of(who, shared, rivals);
         if (!a)
             return 1;
-        if (a->end != LUFFA_DONE && a->end != KILLED)
+        if (a->end != LUFFA_DONE && a->end != KILLED && a->end != UNKNOWN)
             return wrong("%s ended with %d, and its save was accepted", who, a->end);
         if (!same(a->claim, digests[i]))
             return wrong("%s was accepted over a sheet that it had not opened", who);
@@ -200,14 +236,17 @@ static int fold(size_t code, const struct shared *shared, int rivals)
             return wrong("%s asked for another list than was saved", who);
         if (!same(entry + 40, digests[i]) || !same(entry + ENTRY_HEAD + STEP * n, digests[i + 1]))
             return wrong("%s: the log has other digests than the list", who);
-        if (number(entry + 36, 4) != 1 && (number(entry + 36, 4) != 0 || a->end != KILLED))
+        if (!rows && number(entry + 36, 4) != 1 && (number(entry + 36, 4) != 0 || a->end != KILLED))
             return wrong("%s isn't marked as accepted", who);
+        if (rows && check_row(who, a, entry, ENTRY_HEAD + STEP * n + DIGEST_MOST, i))
+            return 1;
         if (a->end == LUFFA_DONE && !same(a->told, digests[i + 1]))
             return wrong("%s was told another digest than the list has", who);
         order[i] = a;
         smallest = list.n < smallest ? list.n : smallest;
         largest = list.n > largest ? list.n : largest;
     }
+    bound();
     return left == 0 ? 0 : wrong("the log goes on after the saves that count");
 }
 
@@ -223,8 +262,19 @@ static int account(const struct attempt *a, int made, int r, long k)
     case KILLED:
         *(made ? &killed_saved : &killed_before) += 1;
         return 0;
+    case UNKNOWN:
+        *(made ? &unknown_saved : &unknown_before) += 1;
+        return made == (a->asked == ASKED_ACCEPTED)
+                   ? 0
+                   : wrong("r%d.%ld asked by its id, and was told the opposite of what is so", r, k);
+    case LOST:
+        lost++;
+        lost_asked += a->asked == ASKED_MISSING;
+        lost_by_others += !a->doomed;
+        return 0;
     case LUFFA_DONE:
         done++;
+        done_asked += a->asked == ASKED_ACCEPTED;
         return made ? 0 : wrong("r%d.%ld was told that it was accepted, and its save is missing", r, k);
     case NOTHING:
         nothing++;
@@ -253,9 +303,9 @@ static int account_all(const struct shared *shared, int rivals)
         for (long k = 0; k < shared->rivals[r].attempts; k++)
             if (account(&shared->rivals[r].attempt[k], seen[r][k], r, k))
                 return 1;
-    if (done + killed_saved != (long)accepted)
-        return wrong("%ld saves were told and %ld killed ones were made, but %zu accepted", done, killed_saved,
-                     accepted);
+    if (done + killed_saved + unknown_saved != (long)accepted)
+        return wrong("%ld saves were told and %ld others were made, but %zu accepted", done,
+                     killed_saved + unknown_saved, accepted);
     if (stale_group + stale_tail == 0)
         return wrong("nobody was turned away as stale");
     if (killed_saved + killed_before == 0)
@@ -291,22 +341,59 @@ static int kinds(long wanted)
     return 0;
 }
 
-int check(const char *file, size_t code, const struct shared *shared, int rivals, long wanted, double seconds)
+/* What the server was put to. In a trial that isn't too short all of it came up. A save is lost by a doom of its own,
+   by its connection that was terminated, or once each time that the server is killed. */
+static int losses(const struct shared *shared, int rivals, long wanted)
 {
-    long outside = 0, inside = 0;
+    long ended = atomic_load(&shared->terminated), kills = atomic_load(&shared->server_kills);
 
-    sheet = whole(file, "", &sheet_len);
-    save_log = whole(file, ".log", &log_len);
-    if (!sheet || !save_log || sheet_len < HEAD)
+    printf("lost %ld, with nothing saved: %ld had asked by their id, %ld were lost by no doom of their own\n", lost,
+           lost_asked, lost_by_others);
+    printf("not known at first %ld, of which %ld were accepted, as they were told when they asked\n",
+           unknown_saved + unknown_before, unknown_saved);
+    printf("connections terminated %ld, server killed %ld time%s, %ld openings refused meanwhile\n", ended, kills,
+           kills == 1 ? "" : "s", atomic_load(&shared->refused));
+    if (lost_by_others > ended + kills * rivals)
+        return wrong("more saves were lost than connections");
+    if (wanted >= KINDS_FROM && (kills == 0 || ended == 0))
+        return wrong("the server was left in peace");
+    if (wanted >= KINDS_FROM &&
+        (lost == 0 || lost_asked == 0 || done_asked == 0 || unknown_saved + unknown_before == 0))
+        return wrong("a way to lose a connection is missing");
+    return 0;
+}
+
+/* Reads the files, and makes room for what is worked out. */
+static int prepare(const struct store *store, const struct shared *shared, int rivals)
+{
+    rows = store->rows;
+    sheet = whole(store->file, "", &sheet_len);
+    save_log = whole(store->file, ".log", &log_len);
+    ids = rows ? whole(store->file, ".ids", &ids_len) : NULL;
+    if (!sheet || !save_log || sheet_len < HEAD || (rows && !ids))
         return wrong("the sheet or its log is gone");
     accepted = number(sheet + 24, 8);
     /* The last save was undisturbed, and has cut off what the killed had left. */
-    if (number(sheet + 32, 8) != log_len || log_len / (ENTRY_HEAD + DIGEST_MOST) < accepted)
+    if ((!rows && number(sheet + 32, 8) != log_len) || log_len / (ENTRY_HEAD + DIGEST_MOST) < accepted)
         return wrong("the log is longer or shorter than the sheet says");
+    if (rows && ids_len != ROW * accepted)
+        return wrong("there are more or fewer saves than the sheet says");
     order = enough(calloc(accepted + 1, sizeof *order));
+    certain = enough(calloc(accepted + 1, sizeof *certain));
+    certain[accepted] = INT64_MAX;
     digests = enough(calloc(accepted + 1, sizeof *digests));
-    for (int r = 0; r <= rivals; r++) {
+    for (int r = 0; r <= rivals; r++)
         seen[r] = enough(calloc((size_t)shared->rivals[r].attempts + 1, 1));
+    return 0;
+}
+
+int check(const struct store *store, size_t code, const struct shared *shared, int rivals, long wanted, double seconds)
+{
+    long outside = 0, inside = 0;
+
+    if (prepare(store, shared, rivals))
+        return 1;
+    for (int r = 0; r <= rivals; r++) {
         outside += shared->rivals[r].outside;
         inside += shared->rivals[r].inside;
     }
@@ -314,13 +401,18 @@ int check(const char *file, size_t code, const struct shared *shared, int rivals
     if (fold(code, shared, rivals) || check_sheet(code) || account_all(shared, rivals))
         return 1;
 
-    printf("accepted %zu, of which %ld by savers that were killed before they could say so\n", accepted, killed_saved);
+    printf("accepted %zu, of which %ld by savers that were killed before they could say so", accepted, killed_saved);
+    if (rows)
+        printf(", %ld by some that lost their connection and asked by their id", done_asked);
+    putchar('\n');
     if (kinds(wanted))
         return 1;
     printf("turned away: %ld stale (%ld with a group named), %ld for want of a well; nothing to save: %ld\n",
            stale_group + stale_tail, stale_group, absent, nothing);
-    printf("killed %ld: %ld at any time, %ld at a step of the save; %ld of them had saved nothing\n",
-           killed_saved + killed_before, outside, inside, killed_before);
+    printf("killed %ld: %ld at any time, %ld at a %s of the save; %ld of them had saved nothing\n",
+           killed_saved + killed_before, outside, inside, store->parts, killed_before);
+    if (rows && losses(shared, rivals, wanted))
+        return 1;
     printf("%.1f s, %.1f accepted saves a second\n", seconds, (double)accepted / seconds);
     return 0;
 }
