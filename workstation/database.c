@@ -245,7 +245,7 @@ static void ask_again(struct store *store, const uint8_t id[ID])
     exit(UNKNOWN);
 }
 
-static void database_save(struct store *store, struct sheet *next, struct entry *entry)
+static int database_save(struct store *store, struct sheet *next, struct entry *entry)
 {
     struct database *database = store->database;
     struct values values = named(database);
@@ -264,9 +264,13 @@ static void database_save(struct store *store, struct sheet *next, struct entry 
         stop(FAILED, "%s %s: %s.", saving, store->name, database->server.words);
     if (answer == LOST)
         ask_again(store, id);
-    closing = going_on = "";
-    if (answer == UNCONFIRMED)
-        stop(UNSURE, "Saved, but the server warns: %s.", database->server.words);
+    if (!database->server.warning[0])
+        return 1;
+    fflush(stdout);
+    fprintf(stderr, "plan: The server warns of this save: ");
+    text_put(stderr, database->server.warning);
+    fprintf(stderr, ".\n");
+    return 0;
 }
 
 static void database_mend(struct store *store, const struct sheet *sheet)

@@ -142,7 +142,7 @@ static void files_leave(struct store *store)
     place_unlock(&store->place);
 }
 
-static void files_save(struct store *store, struct sheet *next, struct entry *entry)
+static int files_save(struct store *store, struct sheet *next, struct entry *entry)
 {
     uint64_t at = next->logged;
 
@@ -151,6 +151,7 @@ static void files_save(struct store *store, struct sheet *next, struct entry *en
     replace(store, next);
     log_accepted(store->files.log, at);
     place_unlock(&store->place);
+    return 1;
 }
 
 static void files_mend(struct store *store, const struct sheet *sheet)

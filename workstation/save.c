@@ -162,8 +162,8 @@ static void turn_away(struct desk *desk, const struct claim *claim, const struct
     int known;
 
     store_leave(&desk->store);
-    if (own && !why)
-        closing = " Nothing was saved, and your text is kept.";
+    if (own && !why && !going_on[0])
+        going_on = " Your text is kept.";
     opened.code = desk->sheet.code;
     known = store_had(&desk->store, &desk->sheet, claim->bytes, &opened.list);
     if (known && sheet_build(&opened) == LUFFA_DONE)
@@ -201,7 +201,7 @@ void desk_save(struct desk *desk, const struct steps *steps, const struct claim 
         memcpy(entry.before, desk->sheet.digest, DIGEST_MOST);
         memcpy(entry.after, next.digest, DIGEST_MOST);
         entry.steps = *steps;
-        store_save(&desk->store, &next, &entry);
+        desk->unsure = !store_save(&desk->store, &next, &entry);
         desk->sheet = next;
         return;
     }
@@ -221,5 +221,5 @@ int desk_answer(const struct desk *desk)
 
     printf("%s: %zu record%s\n", desk->saved ? "saved" : "nothing to save", sheet->list.n, many(sheet->list.n));
     print_digest(stdout, sheet->digest, digest_bytes(sheet->code));
-    return printed(UNSURE);
+    return printed(UNSURE) != 0 || desk->unsure ? UNSURE : LUFFA_DONE;
 }

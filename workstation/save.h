@@ -8,7 +8,7 @@
 struct desk {
     struct store store;
     struct sheet sheet;
-    int saved;
+    int saved, unsure; /* whether something was saved, and whether the server warns of it */
 };
 
 /* A digest as it was given, in bytes, up to one more than the longest has: whether they are as many as they should be

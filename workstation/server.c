@@ -26,31 +26,36 @@ void values_number(struct values *values, size_t bytes, int64_t number)
     values_bytes(values, values->numbers[values->n], bytes);
 }
 
-/* Keeps what was said of a failure: lines become one, without a full stop at the end. */
-static void note(struct server *server, const char *said, const char *state)
+/* Lines become one, without a full stop at the end. */
+static void copy_words(char *words, size_t most, const char *said)
 {
     size_t len = 0;
 
-    snprintf(server->state, sizeof server->state, "%s", state ? state : "");
-    for (; said && *said && len + 3 < sizeof server->words; said++)
+    for (; said && *said && len + 3 < most; said++)
         if (*said != '\n')
-            server->words[len++] = *said == '\t' ? ' ' : *said;
+            words[len++] = *said == '\t' ? ' ' : *said;
         else if (said[1])
-            len += (size_t)snprintf(server->words + len, sizeof server->words - len - 1, said[1] == '\t' ? ";" : "; ");
-    while (len > 0 && strchr(". ?", server->words[len - 1]))
+            len += (size_t)snprintf(words + len, most - len - 1, said[1] == '\t' ? ";" : "; ");
+    while (len > 0 && strchr(". ?", words[len - 1]))
         len--;
-    server->words[len] = 0;
+    words[len] = 0;
+}
+
+/* Keeps what was said of a failure. */
+static void note(struct server *server, const char *said, const char *state)
+{
+    snprintf(server->state, sizeof server->state, "%s", state ? state : "");
+    copy_words(server->words, sizeof server->words, said);
 }
 
 /* What the server remarks on its way isn't for the planner; what it warns of may be. */
-static void on_remark(void *server, const PGresult *remark)
+static void on_remark(void *connected, const PGresult *remark)
 {
+    struct server *server = connected;
     const char *severity = PQresultErrorField(remark, PG_DIAG_SEVERITY_NONLOCALIZED);
 
-    if (!severity || strcmp(severity, "WARNING") != 0)
-        return;
-    ((struct server *)server)->warned = 1;
-    note(server, PQresultErrorField(remark, PG_DIAG_MESSAGE_PRIMARY), "");
+    if (server->committing && severity && strcmp(severity, "WARNING") == 0)
+        copy_words(server->warning, sizeof server->warning, PQresultErrorField(remark, PG_DIAG_MESSAGE_PRIMARY));
 }
 
 /* What libpq says of a name that it can't read may have the password in it, and isn't said. */
@@ -214,11 +219,14 @@ enum commit server_commit(struct server *server)
     const char *severity;
     PGresult *result;
 
-    server->warned = server->begun = 0;
+    server->begun = 0;
+    server->warning[0] = 0;
+    server->committing = 1;
     result = make(server, "COMMIT", NULL);
+    server->committing = 0;
     severity = PQresultErrorField(result, PG_DIAG_SEVERITY_NONLOCALIZED);
     if (result && done(result)) {
-        answer = server->warned ? UNCONFIRMED : DONE;
+        answer = DONE;
         if (strcmp(PQcmdStatus(result), "COMMIT") != 0) {
             note(server, "the server has undone it", "");
             answer = REFUSED;

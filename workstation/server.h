@@ -9,8 +9,9 @@
 struct server {
     const char *uri, *shown; /* the second without a password, for messages */
     PGconn *connection;      /* null where there is none */
+    int committing;          /* whether a commit is under way */
     int begun;               /* whether a transaction is under way, which goes on over no other connection */
-    int warned;              /* whether the server has warned, as that a standby hasn't confirmed what was committed */
+    char warning[1024];      /* what the server warned of at a commit, as that no standby has it yet; or "" */
     char words[1024];        /* what was said of what failed last, in one line, */
     char state[6];           /* and its SQLSTATE, or "" where it wasn't the server that said it */
 };
@@ -62,9 +63,9 @@ void server_begin(struct server *server, const char *doing);
 /* The same, and gives 0 where it fails. */
 int server_try_begin(struct server *server);
 
-/* Commits: DONE; UNCONFIRMED where it is done, and the server warns of it; REFUSED where the server has undone it all,
+/* Commits: DONE, or REFUSED where the server has undone it all,
    or LOST where the connection was lost, so that it isn't known. */
-enum commit { DONE, UNCONFIRMED, REFUSED, LOST };
+enum commit { DONE, REFUSED, LOST };
 enum commit server_commit(struct server *server);
 
 /* Leaves all as it was, or ends a transaction that has only read. */

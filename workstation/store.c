@@ -76,10 +76,12 @@ void store_open(struct store *store, struct sheet *sheet, struct luffa_mend_answ
     store->kind->open(store, sheet, spoiled);
 }
 
-void store_save(struct store *store, struct sheet *next, struct entry *entry)
+int store_save(struct store *store, struct sheet *next, struct entry *entry)
 {
-    store->kind->save(store, next, entry);
+    int confirmed = store->kind->save(store, next, entry);
+
     closing = going_on = "";
+    return confirmed;
 }
 
 void store_mend(struct store *store, const struct sheet *sheet)

@@ -53,8 +53,9 @@ int store_make(struct store *store, const struct sheet *sheet);
 void store_open(struct store *store, struct sheet *sheet, struct luffa_mend_answer *spoiled);
 
 /* Of a sheet that is open: saves the next one in its place together with the entry, of which it fills in when; writes
-   its marks anew; or leaves all as it is. Each lets go of the lock. */
-void store_save(struct store *store, struct sheet *next, struct entry *entry);
+   its marks anew; or leaves all as it is. Each lets go of the lock. A save gives 0 where it is there and the server
+   warns of it, which is said. */
+int store_save(struct store *store, struct sheet *next, struct entry *entry);
 void store_mend(struct store *store, const struct sheet *sheet);
 void store_leave(struct store *store);
 
@@ -83,7 +84,7 @@ struct store_kind {
     void (*look)(struct store *store, struct sheet *sheet);
     int (*make)(struct store *store, const struct sheet *sheet);
     void (*open)(struct store *store, struct sheet *sheet, struct luffa_mend_answer *spoiled);
-    void (*save)(struct store *store, struct sheet *next, struct entry *entry);
+    int (*save)(struct store *store, struct sheet *next, struct entry *entry);
     void (*mend)(struct store *store, const struct sheet *sheet);
     void (*leave)(struct store *store);
     void (*rest)(struct store *store);
