@@ -182,6 +182,20 @@ static void commit_again(struct store *store, const char *what)
     stop(UNKNOWN, "The connection was lost at the commit: whether %s isn't known. Give the command again.", what);
 }
 
+/* Saves without a sheet are those of one whose row was taken away. */
+static void check_none(struct store *store)
+{
+    struct values values = named(store->database);
+    PGresult *result = server_ask(&store->database->server, "Can't make",
+                                  "SELECT 1 FROM plan.saves WHERE sheet = $1 LIMIT 1", &values);
+    int rows = PQntuples(result);
+
+    PQclear(result);
+    if (rows > 0)
+        stop(EXISTS, "%s is there, the log of a sheet that isn't. Put the sheet's row back, or take its log away too.",
+             store->log_name);
+}
+
 static int database_make(struct store *store, const struct sheet *sheet)
 {
     struct database *database = store->database;
@@ -197,6 +211,8 @@ static int database_make(struct store *store, const struct sheet *sheet)
                         &values);
     made = strcmp(PQcmdTuples(result), "1") == 0;
     PQclear(result);
+    if (made)
+        check_none(store);
     commit_again(store, "the sheet is made");
     return made;
 }
