@@ -23,6 +23,7 @@ static const struct store *store;
 static char *plan, folder[3072];
 static long wanted, room;
 static size_t code;
+static struct save save; /* the last that was tried */
 
 /* Says the first violation of all, with the last line that the workstation printed where its status is the matter. */
 static int failed(int r, const char *doing, int status)
@@ -60,7 +61,7 @@ static int look(char *const *arguments, int64_t *begun, int64_t *ended)
 }
 
 /* Opens the sheet, and notes its digest as the claim. Gives how many saves it has had, or VIOLATED. */
-static long open_sheet(int r, struct attempt *a, struct save *save, struct list *list)
+static long open_sheet(int r, struct attempt *a, struct list *list)
 {
     char *opening[] = {plan, "show", (char *)store->sheet, "--csv", NULL};
     uint8_t digest[DIGEST_MOST];
@@ -69,7 +70,7 @@ static long open_sheet(int r, struct attempt *a, struct save *save, struct list 
     int status = look(opening, &a->opening, &a->opened);
 
     if (status != 0 || sscanf(said_err, "%lu record%*[s,] code %*u, %ld save", &n, &saves) != 2 ||
-        !told_digest(said_err, code, a->claim, save->claim))
+        !told_digest(said_err, code, a->claim, save.claim))
         return failed(r, "show", status);
     if (!list_from_csv(list, said_out) || list->n != n)
         return failed(r, "show gave a text that isn't that of a sheet", VIOLATED);
@@ -81,41 +82,41 @@ static long open_sheet(int r, struct attempt *a, struct save *save, struct list 
 
 /* Takes away the text that the workstation kept for a planner whom it turned away. Gives 1 where it was there, 0 where
    none was, and VIOLATED where it was another than the planner's. */
-static int take_kept(const struct save *save)
+static int take_kept(void)
 {
     char path[PATH_ROOM];
-    size_t len, head = strlen("opened,\n") + strlen(save->claim);
+    size_t len, head = strlen("opened,\n") + strlen(save.claim);
     uint8_t *bytes;
     int same;
 
-    if (!find_kept(store->folder, save->who, path) || !(bytes = whole(path, "", &len)))
+    if (!find_kept(store->folder, save.who, path) || !(bytes = whole(path, "", &len)))
         return 0;
-    same = len == head + save->text_len && memcmp(bytes, "opened,", 7) == 0 &&
-           memcmp(bytes + 7, save->claim, head - 8) == 0 && bytes[head - 1] == '\n' &&
-           memcmp(bytes + head, save->text, save->text_len) == 0;
+    same = len == head + save.text_len && memcmp(bytes, "opened,", 7) == 0 &&
+           memcmp(bytes + 7, save.claim, head - 8) == 0 && bytes[head - 1] == '\n' &&
+           memcmp(bytes + head, save.text, save.text_len) == 0;
     free(bytes);
     return unlink(path) == 0 && same ? 1 : VIOLATED;
 }
 
 /* Runs the save of an attempt and gives how it ended. */
-static int run_save(int r, const struct attempt *a, struct save *save, const struct doom *doom, int64_t kill_after)
+static int run_save(int r, const struct attempt *a, const struct doom *doom, int64_t kill_after)
 {
-    char path[PATH_ROOM], *saving[8 + WELLS_MOST] = {plan, "save", (char *)store->sheet, save->claim};
+    char path[PATH_ROOM], *saving[8 + WELLS_MOST] = {plan, "save", (char *)store->sheet, save.claim};
     size_t i = 4;
     int status;
 
     snprintf(path, sizeof path, "%s/r%d.csv", folder, r);
     if (a->kind == SAVE) {
         saving[i++] = path;
-        if (!write_whole(path, save->text, save->text_len))
+        if (!write_whole(path, save.text, save.text_len))
             return -104;
     } else {
         saving[1] = a->kind == STRIKE ? "strike" : "close-up";
     }
-    for (size_t w = 0; w < save->wells_n; w++)
-        saving[i++] = save->wells[w];
+    for (size_t w = 0; w < save.wells_n; w++)
+        saving[i++] = save.wells[w];
     saving[i++] = "--as";
-    saving[i++] = save->who;
+    saving[i++] = save.who;
     saving[i] = NULL;
     status = run(saving, doom, kill_after);
     return status == LUFFA_DONE && strstr(said_out, "nothing to save") ? NOTHING : status;
@@ -152,9 +153,9 @@ static int known_end(int end)
 }
 
 /* Notes how an attempt ended. Gives its end, or VIOLATED where it could not have ended so. */
-static int ended(int r, struct attempt *a, const struct save *save)
+static int ended(int r, struct attempt *a)
 {
-    int stale = a->end == LUFFA_STALE || a->end == LUFFA_STALE_TAIL, kept = take_kept(save);
+    int stale = a->end == LUFFA_STALE || a->end == LUFFA_STALE_TAIL, kept = take_kept();
     int untold = a->end == KILLED || a->end == LUFFA_WELL || a->end == LOST || a->end == UNKNOWN;
     const char *saved = strstr(said_out, "saved: ");
     char digits[DIGITS_MOST];
@@ -171,7 +172,7 @@ static int ended(int r, struct attempt *a, const struct save *save)
         return failed(r, "a text was kept, and none was turned away", VIOLATED);
     if (!untold && !told_digest(stale ? said_err : said_out, code, a->told, digits))
         return failed(r, "a save without a digest", a->end);
-    if (a->end == LUFFA_DONE && (!saved || sscanf(saved, "saved: %zu record", &left) != 1 || left != save->left))
+    if (a->end == LUFFA_DONE && (!saved || sscanf(saved, "saved: %zu record", &left) != 1 || left != save.left))
         return failed(r, "told another number of records than the save must leave", VIOLATED);
     if (strstr(said_err, "Asked by its id"))
         a->asked = a->end == LUFFA_DONE ? ASKED_ACCEPTED : ASKED_MISSING;
@@ -183,7 +184,6 @@ static int ended(int r, struct attempt *a, const struct save *save)
 /* One attempt: opens the sheet and saves. Gives how it ended, or VIOLATED. */
 static int attempt(int r, enum wish wish, const struct doom *doom, int64_t kill_after)
 {
-    static struct save save;
     static struct list list;
     struct rival *me = &shared->rivals[r];
     struct attempt *a = &me->attempt[me->attempts];
@@ -191,7 +191,7 @@ static int attempt(int r, enum wish wish, const struct doom *doom, int64_t kill_
 
     if (me->attempts == room)
         return failed(r, "turned away more often than the saves can explain", VIOLATED);
-    saves = open_sheet(r, a, &save, &list);
+    saves = open_sheet(r, a, &list);
     if (saves == VIOLATED)
         return VIOLATED;
     snprintf(save.who, sizeof save.who, "r%d.%ld", r, me->attempts);
@@ -207,7 +207,7 @@ static int attempt(int r, enum wish wish, const struct doom *doom, int64_t kill_
 
     a->saving = now();
     me->attempts++;
-    a->end = run_save(r, a, &save, doom, kill_after);
+    a->end = run_save(r, a, doom, kill_after);
     a->saved = now();
     if (a->end == KILLED) {
         me->outside += kill_after >= 0;
@@ -215,7 +215,7 @@ static int attempt(int r, enum wish wish, const struct doom *doom, int64_t kill_
     } else if (a->end == LUFFA_DONE) {
         atomic_fetch_add(&shared->accepted, 1);
     }
-    return ended(r, a, &save);
+    return ended(r, a);
 }
 
 /* An attempt that may be disturbed. A doom that was drawn stays until it has come, or until the save was accepted all
@@ -265,20 +265,29 @@ static int rival(int r, uint64_t seed)
     return 0;
 }
 
-/* In the folder stand the files that are to stay there, and nothing else. */
-static int leftovers(void)
+/* In the folder stand the files that are to stay there, and nothing else. That of a database's texts is cleared up by
+   who keeps one: here by one more who is turned away, as the last save has made its own claim an old one. */
+static int leftovers(int r)
 {
-    DIR *all = opendir(store->folder);
+    const struct rival *me = &shared->rivals[r];
+    DIR *all;
     struct dirent *one;
-    int found = 0;
+    int found = 0, status;
 
+    if (store->rows) {
+        status = run_save(r, &me->attempt[me->attempts - 1], &unharmed, -1);
+        if ((status != LUFFA_STALE && status != LUFFA_STALE_TAIL) || take_kept() != 1)
+            return failed(r, "the last save, made again,", status);
+    }
+    all = opendir(store->folder);
     while (all && (one = readdir(all)) != NULL)
         if (!store->stays(one->d_name) && one->d_name[0] != '.') {
             printf("trial: VIOLATED: %s was left behind\n", one->d_name);
             found = 1;
         }
-    closedir(all);
-    return found;
+    if (all)
+        closedir(all);
+    return found || !all;
 }
 
 /* Makes the sheet. One save of it may say how saves are done. */
@@ -376,7 +385,8 @@ int main(int argc, char **argv)
     char *verifying[] = {plan, "verify", (char *)store->sheet, NULL};
     if ((status = attempt(rivals, CHANGES, &unharmed, -1)) != LUFFA_DONE)
         return failed(rivals, "the last save", status), 1;
-    if ((store->gather && store->gather(store)) || check(store, code, shared, rivals, wanted, seconds) || leftovers())
+    if ((store->gather && store->gather(store)) || check(store, code, shared, rivals, wanted, seconds) ||
+        leftovers(rivals))
         return 1;
     status = run(verifying, &unharmed, -1);
     return status == 0 ? 0 : (failed(rivals, "verify", status), 1);
