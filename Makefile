@@ -11,7 +11,9 @@ SONAME := libluffa.so.2
 GCC := $(if $(filter x86_64,$(shell uname -m)),gcc,x86_64-linux-gnu-gcc)
 AR := $(if $(filter x86_64,$(shell uname -m)),ar,x86_64-linux-gnu-ar)
 
-# libpq, where pkg-config finds it: then `plan` keeps sheets in PostgreSQL too. On another processor it isn't for x86-64.
+# libpq, where pkg-config finds it: then there is a second program, plan-postgresql, to which `plan` hands over what is
+# about a sheet in PostgreSQL. `plan` itself is the same everywhere, and loads no library of libpq's for a sheet in a
+# file. On another processor libpq isn't for x86-64.
 LIBPQ := $(if $(filter x86_64,$(shell uname -m)),$(shell pkg-config --exists libpq 2>/dev/null && \
     echo -DPLAN_POSTGRESQL $$(pkg-config --cflags --libs libpq)))
 
@@ -25,7 +27,7 @@ PLAN ?= target/bin/plan
 .NOTPARALLEL:
 # An archive that isn't whole isn't left for the next make.
 .DELETE_ON_ERROR:
-all: $(LUFFA_ARCHIVE) $(LUFFA_LIB)/libluffa.so $(LUFFASUM) $(PLAN)
+all: $(LUFFA_ARCHIVE) $(LUFFA_LIB)/libluffa.so $(LUFFASUM) $(PLAN) $(if $(LIBPQ),$(PLAN)-postgresql)
 
 # rt knows by itself what has to be proved again; the sources say when to ask it. rt check proves
 # crates that don't need each other side by side and builds the program too; rt staticlib would take
@@ -47,9 +49,9 @@ target/bin/luffasum: $(SOURCES)
 	rt check luffasum
 	touch -c $@
 
-$(PLAN): $(FIRST) include/luffa.h $(wildcard workstation/*.[ch])
+$(PLAN) $(PLAN)-postgresql: $(FIRST) include/luffa.h $(wildcard workstation/*.[ch])
 	mkdir -p $(@D)
-	$(GCC) -std=c11 -O2 -Wall -Wextra -Wconversion -Iinclude workstation/*.c $(FIRST) $(LIBPQ) -o $@
+	$(GCC) -std=c11 -O2 -Wall -Wextra -Wconversion -Iinclude workstation/*.c $(FIRST) $(if $(filter %-postgresql,$@),$(LIBPQ)) -o $@
 
 story: $(PLAN)
 	@workstation/story $(PLAN)
@@ -70,9 +72,10 @@ install: all
 	sed 's|@PREFIX@|$(PREFIX)|; s|@VERSION@|$(VERSION)|' luffa.pc.in >$(DESTDIR)$(PREFIX)/lib/pkgconfig/luffa.pc
 	install -m 755 $(LUFFASUM) $(DESTDIR)$(PREFIX)/bin/luffasum
 	install -m 755 $(PLAN) $(DESTDIR)$(PREFIX)/bin/plan
+	$(if $(LIBPQ),install -m 755 $(PLAN)-postgresql $(DESTDIR)$(PREFIX)/bin/plan-postgresql)
 	install -m 644 man/luffasum.1 man/plan.1 $(DESTDIR)$(PREFIX)/share/man/man1/
 
 # What rt made stays: to prove it again takes minutes.
 clean:
-	rm -f $(LUFFA_LIB)/libluffa.so $(LUFFA_LIB)/$(SONAME) $(PLAN)
+	rm -f $(LUFFA_LIB)/libluffa.so $(LUFFA_LIB)/$(SONAME) $(PLAN) $(PLAN)-postgresql
 	rm -rf target/story

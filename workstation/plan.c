@@ -449,6 +449,7 @@ int main(int argc, char **argv)
     const struct command *command = commands, *end = commands + sizeof commands / sizeof *commands;
     int kept = 0, plain = 0;
 
+    store_hand_over(argv);
     /* A reader of our answer that has gone away is seen where we print, and no reason to die in between. */
     signal(SIGPIPE, SIG_IGN);
     if (argc == 2 && strcmp(argv[1], "--help") == 0) {

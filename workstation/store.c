@@ -4,11 +4,31 @@
 #include "say.h"
 #include <string.h>
 #include <strings.h>
+#include <unistd.h>
 
 /* The names that libpq takes for a database's. */
 static int in_database(const char *sheet)
 {
     return strncmp(sheet, "postgresql://", 13) == 0 || strncmp(sheet, "postgres://", 11) == 0;
+}
+
+void store_hand_over(char **argv)
+{
+#ifndef PLAN_POSTGRESQL
+    static const char with[] = "-postgresql";
+    char path[PATH_MAX + sizeof with];
+    ssize_t len = readlink("/proc/self/exe", path, PATH_MAX);
+    int about_database = 0;
+
+    for (size_t i = 1; argv[0] && argv[i]; i++)
+        about_database = about_database || in_database(argv[i]);
+    if (!about_database || len <= 0)
+        return;
+    memcpy(path + len, with, sizeof with);
+    execv(path, argv);
+#else
+    (void)argv;
+#endif
 }
 
 /* What was meant for one, and is mistyped, may have a password in it: it isn't taken for a file's name, and told. */

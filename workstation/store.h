@@ -29,6 +29,11 @@ struct store {
     struct database *database;
 };
 
+/* Hands a command about a sheet in a database over to the program beside this one that was built with libpq, where this
+   one wasn't: one who keeps sheets in files doesn't load libpq, and all that it needs, at each start. Comes back where
+   there is no such command, or no such program. */
+void store_hand_over(char **argv);
+
 /* Each of these ends the program with a message where it can't be done. */
 
 /* Finds the place of a sheet that exists, or of one that is to be made; closes it. */

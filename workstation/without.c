@@ -1,4 +1,5 @@
-/* What stands for database.c where the workstation is built without libpq: it says so when such a sheet is named. */
+/* What stands for database.c where the workstation is built without libpq, and the program that was built with it isn't
+   there: it says so when such a sheet is named. */
 #define _POSIX_C_SOURCE 200809L
 #include "init.h"
 #include "say.h"
@@ -7,7 +8,8 @@
 #ifndef PLAN_POSTGRESQL
 
 static const char words[] =
-    "This plan was built without PostgreSQL (libpq), which sheets named postgresql:// are kept in.";
+    "This plan was built without PostgreSQL (libpq), which sheets named postgresql:// are kept in, and beside it is no "
+    "plan-postgresql.";
 
 static void without_find(struct store *store, const char *sheet, int is_new)
 {
