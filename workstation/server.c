@@ -188,9 +188,10 @@ void server_begin_reading(struct server *server, const char *doing)
 static int tried(struct server *server, const char *statement)
 {
     PGresult *result = server_try(server, statement, NULL);
+    int made = result != NULL;
 
     PQclear(result);
-    return result != NULL;
+    return made;
 }
 
 /* It doesn't ask to write: a database that is set to be read only, as before it is moved, stays so. A saver holds the

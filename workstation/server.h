@@ -16,7 +16,8 @@ struct server {
     char state[6];           /* and its SQLSTATE, or "" where it wasn't the server that said it */
 };
 
-/* The values of a statement: $1, $2, .. in the order in which they were added. */
+/* The values of a statement: $1, $2, .. in the order in which they were added. One with numbers isn't to be copied, as
+   it points into itself. */
 enum { VALUES_MOST = 9 };
 struct values {
     int n;
@@ -63,8 +64,8 @@ void server_begin(struct server *server, const char *doing);
 /* The same, and gives 0 where it fails. */
 int server_try_begin(struct server *server);
 
-/* Commits: DONE, or REFUSED where the server has undone it all,
-   or LOST where the connection was lost, so that it isn't known. */
+/* Commits: DONE, or REFUSED where the server has undone it all, or LOST where the connection was lost, so that it isn't
+   known. */
 enum commit { DONE, REFUSED, LOST };
 enum commit server_commit(struct server *server);
 
