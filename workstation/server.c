@@ -80,8 +80,8 @@ static void leave_used(void)
         server_leave(used);
 }
 
-/* The parameters of a name come after ours, and count. A server that is gone without a word is noticed within a minute:
-   no planner waits for it longer. */
+/* The parameters of a name come after ours, and count. Ours bound how long a server that is gone without a word is
+   waited for. */
 int server_connect(struct server *server)
 {
     static const char *const keywords[] = {"connect_timeout",

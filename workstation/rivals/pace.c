@@ -98,7 +98,7 @@ static int save(int r, int s, struct opened *opened, char *file)
 static int saver(int r, int64_t until)
 {
     static struct opened opened[SHEETS_MOST];
-    char file[] = "/tmp/pace-XXXXXX";
+    char file[] = P_tmpdir "/pace-XXXXXX";
     int made = mkstemp(file), good = made >= 0;
 
     any_from((uint64_t)r + 1);
