@@ -1,5 +1,7 @@
 // Blocks and states as every part above handles them: the block of zeros, XOR, doubling, the blocks that w uses, the number w,
 // and the words of a state (source, 2.2 and 3.2).
+#![tactic(auto)]
+
 ghost use Rattle.std.specs.Prelude.{◌≡◌};
 ghost use Rattle.definition.specs.Block.{zero_block, ◌⊕◌, words_of_all};
 ghost use Rattle.definition.specs.Field.{double as double_of};

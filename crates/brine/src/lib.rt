@@ -1,4 +1,6 @@
 // The brine statement over a batch of sheets (document 02, Q-3).
+#![tactic(auto)]
+
 ghost use Rattle.std.specs.Prelude.{◌≡◌, length};
 ghost use Rattle.definition.specs.Refusal.{first_of};
 ghost use Rattle.brine_definition.specs.Statement.{brine_refusals, brine_outcome};

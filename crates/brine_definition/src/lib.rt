@@ -1,4 +1,5 @@
 // The plain data that the definitions of the brine statement and its code share (document 02, Q-3). No code stands here.
+#![tactic(auto)]
 
 // The most sheets of a batch, and the kilograms of a tonne.
 pub const SHEETS_MOST: usize = 64;
@@ -7,7 +8,7 @@ pub const KILOGRAMS: u64 = 1000;
 
 // The refusal's number, and over a batch: sheets sound, sheets faulted, total intake in kilograms a day, injectors overloaded.
 #[repr(C)]
-#[derive(Drop)]
+#[derive(Clone, Copy)]
 pub struct Statement {
     pub number: u64,
     pub sound: u64,

@@ -1,4 +1,6 @@
 // The brine statement of one sheet (document 02, Q-3), of which a batch is made.
+#![tactic(auto)]
+
 ghost use Rattle.std.specs.Prelude.{◌≡◌, true, [], ◌∷◌, ◌*◌, ◌≤◌, pos, length, replicate};
 ghost use Rattle.std.proofs.Math.Seq.{slice};
 ghost use Rattle.definition.specs.Refusal.{pick, first_of};

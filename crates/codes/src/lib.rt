@@ -1,4 +1,6 @@
 // The four codes: 1 = 224 bits, 2 = 256, 3 = 384, 4 = 512 (source, Tables 2 and 3; document 01).
+#![tactic(auto)]
+
 ghost use Rattle.std.specs.Prelude.{◌≡◌};
 ghost use Rattle.definition.specs.Width.{width_at};
 ghost use Rattle.definition.specs.Luffa.{words_at};

@@ -1,4 +1,6 @@
 // States and message blocks by columns, for the commissioning crew (document 02, Q-12): from words, to words, and from a message block.
+#![tactic(auto)]
+
 ghost use Rattle.std.specs.Prelude.{◌≡◌, ◌+◌, ◌*◌, ◌^◌, ◌<◌, ◌≤◌, length, drop};
 ghost use Rattle.definition.specs.Word.{bit};
 ghost use Rattle.definition.specs.Block.{words_of, words_of_all, block_from};

@@ -1,4 +1,6 @@
 // Injection on a dump by columns (document 02, Q-12): the matrices of the source, 3.2.1 to 3.2.3, at each of the 32 positions, by the product tables.
+#![tactic(auto)]
+
 ghost use Rattle.std.specs.Prelude.{◌≡◌, [], ◌∷◌, ◌*◌, ◌<◌, ◌≤◌, length, take};
 ghost use Rattle.definition.specs.declared.Width.TheVariants.{W3, W4, W5};
 ghost use Rattle.definition.specs.Buffer.{overwrite_at};

@@ -1,4 +1,6 @@
 // The refusals of the calls on columns (document 02, Q-12): 1, then 24.
+#![tactic(auto)]
+
 ghost use Rattle.std.specs.Prelude.{◌≡◌, [], ◌∷◌, ◌*◌};
 ghost use Rattle.definition.specs.Refusal.{first_of, width_refusal};
 ghost use Rattle.columns_definition.specs.Columns.{blocks_at, columns_refusal};

@@ -1,8 +1,9 @@
 // The plain data that the definitions of specs/ and the code of the crates above share. No code stands here.
+#![tactic(auto)]
 
 // A block of 256 bits: eight words of 32 bits, a0 the most significant (source, 2.2).
 #[repr(C)]
-#[derive(Drop)]
+#[derive(Clone, Copy)]
 pub struct Block {
     pub a0: u32,
     pub a1: u32,
@@ -15,7 +16,7 @@ pub struct Block {
 }
 
 // The number of blocks of a state, w in the source (Table 2): three, four or five.
-#[derive(Drop)]
+#[derive(Clone, Copy)]
 pub enum Width {
     W3,
     W4,
@@ -23,14 +24,14 @@ pub enum Width {
 }
 
 // Two words: MixWord's outputs y_k and y_k+4 (4.3), or the step constants c_0 and c_4 (4.4).
-#[derive(Drop)]
+#[derive(Clone, Copy)]
 pub struct Pair {
     pub left: u32,
     pub right: u32,
 }
 
 // Four words: SubCrumb's outputs x_0 to x_3 (4.2).
-#[derive(Drop)]
+#[derive(Clone, Copy)]
 pub struct Crumb {
     pub x0: u32,
     pub x1: u32,
@@ -40,7 +41,7 @@ pub struct Crumb {
 
 // The state H_0 to H_w-1 in room for five blocks; those that w doesn't use are zero.
 #[repr(C)]
-#[derive(Drop)]
+#[derive(Clone, Copy)]
 pub struct State {
     pub h0: Block,
     pub h1: Block,
@@ -50,7 +51,7 @@ pub struct State {
 }
 
 // A state with the number of rounds run so far: the count travels with the work.
-#[derive(Drop)]
+#[derive(Clone, Copy)]
 pub struct Counted {
     pub state: State,
     pub rounds: u64,

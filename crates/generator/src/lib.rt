@@ -1,4 +1,6 @@
 // The generator of the step constants as one number of 64 bits, t_L || t_R (source, 4.4): its application, and the constant that this gives.
+#![tactic(auto)]
+
 ghost use Rattle.std.specs.Prelude.{◌≡◌, ◌*◌, ◌/◌, ◌%◌, ◌^◌};
 ghost use Rattle.definition.specs.Constant.{f_l, exchanged};
 

@@ -1,4 +1,6 @@
 // Stepping back over a block of a kept hash record (document 02, Q-9): its refusals, 3 and 18, and the record before the block was fed.
+#![tactic(auto)]
+
 ghost use Rattle.std.specs.Prelude.{◌≡◌, ◌-◌, ◌/◌, ◌%◌, ◌^◌, ◌≤◌, [], ◌∷◌, length};
 ghost use Rattle.definition.specs.Refusal.{first_of};
 ghost use Rattle.definition.specs.State.{blocks_in, state_of};
@@ -13,7 +15,7 @@ use hash_definition::{Kept, Lent};
 const BLOCK: usize = 32;
 
 // A count of whole bytes in two words.
-#[derive(Drop)]
+#[derive(Clone, Copy)]
 struct Count {
     high: u64,
     low: u64,

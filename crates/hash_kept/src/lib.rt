@@ -1,5 +1,7 @@
 // Whether what a kept hash record holds is well formed, and refusals 3, 12, 17 and 4, which the calls over messages, records and lent working
 // states share (document 01, "The kept hash record"; document 02, Q-2 and Q-7).
+#![tactic(auto)]
+
 ghost use Rattle.std.specs.Prelude.{◌≡◌, ◌+◌, ◌*◌, ◌≤◌, [], ◌∷◌, drop, nat_lt};
 ghost use lib.Dec.{ltb};
 ghost use Rattle.definition.specs.Block.{words_of, words_of_all};

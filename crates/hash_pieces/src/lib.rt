@@ -1,5 +1,7 @@
 // A piece fed to what a kept hash record holds, by value (document 01, "The kept hash record"; document 02, Q-7): judged, pasted behind the
 // pending bytes, or absorbed where it lies. A piece that completes no block alters the pending bytes, the odd bits and the count alone.
+#![tactic(auto)]
+
 ghost use Rattle.std.specs.Prelude.{◌≡◌, ◌+◌, ◌-◌, ◌*◌, ◌%◌, ◌<◌, true, ◌++◌, length, take};
 ghost use Rattle.definition.specs.Round.{chain};
 ghost use Rattle.definition.specs.Padding.{blocks};
@@ -14,7 +16,7 @@ use definition::{Counted, State, Width};
 use hash_definition::{Held, Kept, Lent};
 
 // A count of whole bytes in two words.
-#[derive(Drop)]
+#[derive(Clone, Copy)]
 struct Count {
     high: u64,
     low: u64,
@@ -162,7 +164,7 @@ pub fn fed_answer(k: Kept, piece: &[u8], odd: usize) -> Lent
 
 // The answer to a feed whose piece completes no block, and what is held afterwards beside code and state. Where `stays` isn't told the piece
 // completes one, and nothing is answered.
-#[derive(Drop)]
+#[derive(Clone, Copy)]
 pub struct Short {
     pub number: u32,
     pub stays: bool,

@@ -1,5 +1,7 @@
 // The 216 bytes of a kept hash record: read and written. Lengths and places stand here alone (document 01, "The kept hash record"; document 02,
 // Q-7).
+#![tactic(auto)]
+
 ghost use Rattle.std.specs.Prelude.{◌≡◌, ◌+◌, ◌≤◌, length, take, drop};
 ghost use Rattle.definition.specs.Block.{words_of_all};
 ghost use Rattle.definition.specs.Width.{block_count, width_at};
@@ -158,7 +160,7 @@ pub fn waiting(b: &[u8]) -> usize
 }
 
 // A record read but for its state: its code, what else it holds, and whether it is well formed. Nothing of a buffer of another length.
-#[derive(Drop)]
+#[derive(Clone, Copy)]
 pub struct Glanced {
     pub code: usize,
     pub held: Held,

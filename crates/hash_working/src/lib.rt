@@ -1,4 +1,6 @@
 // What a kept hash record holds to begin with, and its output, by value (document 01, "The kept hash record"; document 02, Q-2).
+#![tactic(auto)]
+
 ghost use Rattle.std.specs.Prelude.{◌≡◌, [], ◌∷◌, ◌*◌, ◌^◌, ◌<◌, length};
 ghost use Rattle.definition.specs.Buffer.{overwrite};
 ghost use Rattle.definition.specs.Refusal.{first_of, when_done, out_refusal};

@@ -1,4 +1,6 @@
 // The message injection function MI by the forms of Appendix E of the source: XOR and doubling of blocks.
+#![tactic(auto)]
+
 ghost use Rattle.std.specs.Prelude.{◌≡◌, [], ◌∷◌};
 ghost use Rattle.definition.specs.Block.{◌⊕◌};
 ghost use Rattle.definition.specs.Field.{double as double_of};

@@ -1,5 +1,7 @@
 // The message injection function MI undone by the equations of Appendix E of the source, from the last to the first: XOR, doubling and division of
 // blocks (document 02, Q-9).
+#![tactic(auto)]
+
 ghost use Rattle.std.specs.Prelude.{◌≡◌, [], ◌∷◌, ◌++◌, reverse, ◌%◌};
 ghost use Rattle.definition.specs.Block.{◌⊕◌};
 ghost use Rattle.definition.specs.Field.{double as double_of, keep, times as times_of};

@@ -1,6 +1,8 @@
 // Everything that C can call, and nothing else: thin exports, each with the contract of the function that it calls. include/luffa.h declares
 // them; a slice is a pointer and then a length. Those over a lent struct copy it out, have the answer worked out by value, and where they
 // alter it store what the answer holds; they are what a program in Rattle calls too.
+#![tactic(auto)]
+
 ghost use Rattle.std.specs.Prelude.{◌≡◌};
 ghost use Rattle.hash_definition.specs.Calls.{digest_bits_outcome, digest_outcome, start_outcome, feed_bits_outcome, feed_outcome, finish_outcome};
 ghost use Rattle.hash_definition.specs.Lent.{lent_start_outcome, lent_feed_bits_outcome, lent_feed_outcome, lent_finish_outcome};

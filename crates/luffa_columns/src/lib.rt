@@ -1,5 +1,7 @@
 // What C can call of columns, and nothing else: thin exports, each with the contract of the function that it calls. They stand apart from those of
 // luffa because a static library is compiled to one object: so a program that calls none of these links neither their code nor the product tables.
+#![tactic(auto)]
+
 ghost use Rattle.std.specs.Prelude.{◌≡◌};
 ghost use Rattle.columns_definition.specs.Columns.{from_words_outcome, to_words_outcome, from_message_outcome, inject_outcome};
 

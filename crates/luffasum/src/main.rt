@@ -1,5 +1,7 @@
 // The digest program: reads standard input to its end and prints four lines, one for each code from 1 to 4: code, message bytes, digest
 // (document 01). What is fed and what is printed is luffasum_lines'; here stand the reading and the writing, of which no contract can speak.
+#![tactic(auto)]
+
 use libc::{STDERR_FILENO, STDIN_FILENO, STDOUT_FILENO};
 use luffasum_lines::{End, Records};
 

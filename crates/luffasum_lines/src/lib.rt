@@ -1,6 +1,8 @@
 // What the digest program feeds and prints, without its reading and writing (document 01, the paragraph on the digest program): three records
 // started and fed, and the text at each end of the reading. Codes 1 and 2 share a record, since a digest of 224 bits is the first 28 bytes of
 // that of 256.
+#![tactic(auto)]
+
 ghost use Rattle.std.specs.Prelude.{◌≡◌, ◌+◌, ◌*◌, ◌<◌, ◌≤◌, length, drop};
 ghost use Rattle.definition.specs.Luffa.{bytes_at};
 ghost use Rattle.octets.specs.Total.{write_at};
@@ -15,7 +17,7 @@ use refusals::DONE;
 pub const ROOM: usize = 440;
 
 // What is held at codes 2, 3 and 4 of all that was read, and 0, or the number by which a read was refused.
-#[derive(Drop)]
+#[derive(Clone, Copy)]
 pub struct Records {
     pub number: u32,
     pub two: Kept,
@@ -24,7 +26,7 @@ pub struct Records {
 }
 
 // How the reading ended: the input's end was reached, or a read failed.
-#[derive(Drop)]
+#[derive(Clone, Copy)]
 pub enum End {
     Whole,
     Failed,

@@ -1,5 +1,7 @@
 // Mending marks (document 02, Q-8): each mark of a sheet is held against the true state, which is worked out from the sheet alone, and replaced
 // where it isn't that. Every round is run by `rounds::counted_round`, and its count goes on to the answer.
+#![tactic(auto)]
+
 ghost use Rattle.std.specs.Prelude.{◌≡◌, [], ◌∷◌, ◌+◌, ◌*◌, ◌<◌, ◌≤◌, length};
 ghost use Rattle.definition.specs.Refusal.{first_of, width_refusal};
 ghost use Rattle.sheet_definition.specs.Refusals.{sheet_refusal, marks_refusal};
@@ -22,7 +24,7 @@ fn judge(code: usize, sheet: usize, n: usize, marks: usize) -> u32
 }
 
 // What was found of the marks that were looked at.
-#[derive(Drop)]
+#[derive(Clone, Copy)]
 struct Found {
     wrong: u64,
     first: FirstWrong,

@@ -1,5 +1,7 @@
 // Words and blocks from bytes, and bytes and words into a buffer: four bytes to a word, the first highest (source, 2.2). A slice that is too
 // short reads as zero, and nothing is written where there is no room.
+#![tactic(auto)]
+
 ghost use Rattle.std.specs.Prelude.{◌≡◌, ◌+◌, ◌≤◌, length, get_or};
 ghost use Rattle.definition.specs.Word.{word_of, bytes_of, bytes_of_all};
 ghost use Rattle.definition.specs.Block.{block_of};

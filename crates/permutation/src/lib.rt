@@ -1,5 +1,7 @@
 // The permutation P: Q_j on each block of a state (source, 4.1 and 4.5), with the generator of the step constants (4.4) beside each block. Four
 // blocks are stepped side by side.
+#![tactic(auto)]
+
 ghost use Rattle.std.specs.Prelude.{◌≡◌, ◌*◌, ◌/◌, ◌^◌, ◌<◌};
 ghost use Rattle.definition.specs.Permutation.{tweak as tweak_of};
 ghost use Rattle.definition.specs.Round.{permute_from};
@@ -22,14 +24,14 @@ const MASK_L: u32 = 0xc4d6496c;
 const MASK_R: u32 = 0x55c61c8d;
 
 // One of four Q_j on their way: the generator's t_l and t_r, and the block.
-#[derive(Drop)]
+#[derive(Clone, Copy)]
 struct Going {
     t: Pair,
     a: Block,
 }
 
 // Q_4 on its way, alone: t_l || t_r in one number, which one register holds, and the block.
-#[derive(Drop)]
+#[derive(Clone, Copy)]
 struct Alone {
     t: u64,
     a: Block,

@@ -1,5 +1,7 @@
 // The permutation P undone: Q_j undone on each block of a state (source, 4.1 and 4.5; document 02, Q-9). The generator of the step constants (4.4)
 // is run to its end and then backwards, beside the steps.
+#![tactic(auto)]
+
 ghost use Rattle.std.specs.Prelude.{◌≡◌, ◌<◌, nat_lt};
 ghost use Rattle.definition.specs.Block.{zero_block};
 ghost use Rattle.definition.specs.Constant.{exchanged, initial, constants};

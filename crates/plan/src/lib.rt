@@ -1,5 +1,7 @@
 // The calls on what a sheet's records mean: the check of content (document 02, Q-1). A table of bits for "injector" and one for "seen", 8 KiB
 // each, make it linear in n.
+#![tactic(auto)]
+
 ghost use Rattle.std.specs.Prelude.{◌≡◌, ◌*◌, ◌≤◌, length};
 ghost use Rattle.plan_definition.specs.Well.{wells};
 ghost use Rattle.plan_definition.specs.Rules.{is_injector_of, rule_number};

@@ -30,10 +30,12 @@ exempt true t = none
 exempt false t = t
 
 to_sentences : {k : ℕ} {rs : List Refusal} {ss : List Sentence} → Tests rs ss → First k rs → FirstFalse k ss
+to_sentences {k = k} none f = elim f [ ]
 to_sentences (more i t) here = broken ((other_way true i).0 refl)
 to_sentences (more i t) (later f) = kept (i.0 refl) (to_sentences t f)
 
 to_tests : {k : ℕ} {rs : List Refusal} {ss : List Sentence} → Tests rs ss → FirstFalse k ss → First k rs
+to_tests {k = k} none f = elim f [ ]
 to_tests (more {b = b} i t) (broken h) = rw ((other_way b i).1 h) here
 to_tests (more i t) (kept a f) = rw (i.1 a) (later (to_tests t f))
 

@@ -1,4 +1,5 @@
 // The plain data that the definitions of the plan and its code share (document 02, Q-1). No code stands here.
+#![tactic(auto)]
 
 // The two kinds of well, the links that a record has room for, the most tonnes a day of a rate, and the thousandths that shares add up to.
 pub const PRODUCER: u8 = 1;
@@ -12,7 +13,7 @@ pub const RATE_MOST: u32 = 100000;
 pub const SHARES_TOTAL: u64 = 1000;
 
 // A link: the number of the injector that it names, and its share in thousandths.
-#[derive(Drop)]
+#[derive(Clone, Copy)]
 pub struct Link {
     pub injector: u16,
     pub share: u16,
@@ -20,7 +21,7 @@ pub struct Link {
 
 // A record of a sheet read as a well, with its place there; count is its link count, and of its links the first count are used. Of its note only
 // whether a byte of it is set is read, which tells a struck record.
-#[derive(Drop)]
+#[derive(Clone, Copy)]
 pub struct Well {
     pub place: usize,
     pub number: u16,
@@ -32,7 +33,7 @@ pub struct Well {
 }
 
 // The rules of the request, in its order.
-#[derive(Drop)]
+#[derive(Clone, Copy)]
 pub enum Rule {
     Number,
     Kind,
@@ -45,7 +46,7 @@ pub enum Rule {
 }
 
 // What the check of content says: a refusal by its number, that the sheet is sound, or the rule broken with the place beside it.
-#[derive(Drop)]
+#[derive(Clone, Copy)]
 pub enum Verdict {
     Refused(u64),
     Sound,
@@ -54,7 +55,7 @@ pub enum Verdict {
 
 // The same for C: the refusal's number, the rule's, and the place.
 #[repr(C)]
-#[derive(Drop)]
+#[derive(Clone, Copy)]
 pub struct ContentAnswer {
     pub number: u64,
     pub rule: u64,

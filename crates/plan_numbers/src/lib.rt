@@ -1,5 +1,7 @@
 // A set of well numbers: a bit for each of the 65,536, which is 8 KiB (document 02, Q-1). With it a check asks once for each record whether a
 // number was met, however many records there are.
+#![tactic(auto)]
+
 ghost use Rattle.std.specs.Prelude.{◌≡◌};
 ghost use Rattle.plan_numbers.specs.Numbers.{has as has_number, plus};
 

@@ -1,5 +1,7 @@
 // The places of a sheet's wells by their numbers (document 02, Q-3): an entry for each of the 65,536 numbers, which is 128 KiB. With it a well
 // that a link names is found at once, however many records there are.
+#![tactic(auto)]
+
 ghost use Rattle.std.specs.Prelude.{◌≡◌, length, get_or};
 ghost use Rattle.plan_places.specs.Places.{placed};
 

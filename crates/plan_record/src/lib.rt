@@ -1,4 +1,6 @@
 // A record of a sheet read as a well (document 02, Q-1). Its places in the 40 bytes stand here alone.
+#![tactic(auto)]
+
 ghost use Rattle.std.specs.Prelude.{◌≡◌, ◌+◌, ◌≤◌, length};
 ghost use Rattle.plan_definition.specs.Well.{two as two_at, no_link, link_at, well_of};
 ghost use Rattle.plan_record.specs.Total.{no_well, well_in};

@@ -1,5 +1,7 @@
 // The first rule of the request that a well breaks (document 02, Q-1), with the numbers of the sheet's injectors and those of the places before it
 // handed over as sets.
+#![tactic(auto)]
+
 ghost use Rattle.std.specs.Prelude.{◌≡◌, ◌≤◌, drop};
 ghost use Rattle.std.proofs.Math.Seq.{slice};
 ghost use Rattle.definition.specs.Refusal.{first_of};

@@ -1,5 +1,7 @@
 // The product tables of document 02, Q-12: the products of the ten coefficients of the matrices (source, 3.2.1 to 3.2.3) with the 256 elements of the
 // field of 3.2. That each entry is the product is proved.
+#![tactic(auto)]
+
 ghost use Rattle.std.specs.Prelude.{◌≡◌};
 ghost use Rattle.columns_definition.specs.Products.{products};
 

@@ -1,6 +1,8 @@
 // Who depends on a well (document 02, Q-10): a step for producers and one for injectors call each other while the hops left fall. Each is one pass
 // over the sheet. Producers that are reached have their byte, injectors their number in a set of 8 KiB until the search is over: a link says a
 // number, so nobody looks for the place of one.
+#![tactic(auto)]
+
 ghost use Rattle.std.specs.Prelude.{◌≡◌, false, ◌<◌, ◌≤◌, length, replicate};
 ghost use Rattle.std.proofs.Math.Seq.{slice};
 ghost use Rattle.definition.specs.Refusal.{first_of};

@@ -1,5 +1,7 @@
 // The refusal numbers of documents 01 and 02, how judgements are joined into a call's list, and the two refusals that calls of every family
 // begin with.
+#![tactic(auto)]
+
 ghost use Rattle.std.specs.Prelude.{◌≡◌, [], ◌∷◌, ◌*◌};
 ghost use Rattle.definition.specs.Refusal.{first_of, when_done, width_refusal, out_refusal};
 

@@ -1,5 +1,7 @@
 // Luffa's rounds: the starting state, the round with its count, whole blocks from a byte slice, and the padded end of a message (source, 3.1
 // and 3.2). Every round is run by counted_round.
+#![tactic(auto)]
+
 pub mod last;
 
 ghost use Rattle.std.specs.Prelude.{◌≡◌};

@@ -1,5 +1,7 @@
 // The sheet and its marks: build, change, append, drop (document 01, "Sheet and marks" and refusals 1, 2 and 5 to 11). Each call's outcome,
 // the answer and the buffers that were lent, is one function of its inputs.
+#![tactic(auto)]
+
 ghost use Rattle.std.specs.Prelude.{◌≡◌, length};
 ghost use Rattle.sheet_definition.specs.SheetCalls.{build_outcome, change_outcome, append_outcome, drop_outcome};
 ghost use Rattle.sheet_definition.specs.Save.{save_outcome};

@@ -1,4 +1,6 @@
 // Many changes in one save (document 02, Q-4): all are made or none, under one claim, with one check and one work over the sheet.
+#![tactic(auto)]
+
 ghost use Rattle.std.specs.Prelude.{◌≡◌, [], ◌∷◌, ◌+◌, ◌*◌, ◌≤◌, length};
 ghost use Rattle.definition.specs.Buffer.{Every};
 ghost use Rattle.definition.specs.Refusal.{first_of};

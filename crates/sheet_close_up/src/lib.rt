@@ -1,5 +1,7 @@
 // Closing up struck wells (document 02, Q-11): the records that stand move down over those that are struck, each with its old place in a list,
 // under one claim, with one check and one work over the sheet.
+#![tactic(auto)]
+
 ghost use Rattle.std.specs.Prelude.{◌≡◌, ◌+◌, ◌-◌, ◌*◌, ◌≤◌, length, take, drop, replicate};
 ghost use Rattle.definition.specs.Buffer.{overwrite_at, overwrite, joined};
 ghost use Rattle.sheet_definition.specs.Sheet.{most, record_bytes, cut};

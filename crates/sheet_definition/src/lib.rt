@@ -1,4 +1,5 @@
 // The plain data that the definitions of the sheet and the code of the sheet family share. No code stands here.
+#![tactic(auto)]
 
 // The most records of a sheet, the bytes of a record and of a group of four, and the words of a mark (document 01, "Sheet and marks").
 pub const MOST: usize = 1024;
@@ -11,7 +12,7 @@ pub const MARK: usize = 40;
 
 // What a sheet call answers: the refusal number or 0, the records of the sheet, and the rounds run (document 01, "Sheet and marks").
 #[repr(C)]
-#[derive(Drop)]
+#[derive(Clone, Copy)]
 pub struct Answer {
     pub number: u64,
     pub count: u64,
@@ -19,21 +20,21 @@ pub struct Answer {
 }
 
 // What the comparing of a stale save's marks found (document 02, Q-6): "same marks shared, or names group g".
-#[derive(Drop)]
+#[derive(Clone, Copy)]
 pub enum Found {
     Same,
     Group(usize),
 }
 
 // "beside the number of pairs compared"
-#[derive(Drop)]
+#[derive(Clone, Copy)]
 pub struct Where {
     pub found: Found,
     pub pairs: u64,
 }
 
 // The answer of a save that brings the planner's own marks, and where.
-#[derive(Drop)]
+#[derive(Clone, Copy)]
 pub struct Located {
     pub number: u64,
     pub count: u64,
@@ -43,7 +44,7 @@ pub struct Located {
 
 // The same for C: kind 0 is same, 1 a group, which is 0 where it is the same.
 #[repr(C)]
-#[derive(Drop)]
+#[derive(Clone, Copy)]
 pub struct LocatedAnswer {
     pub number: u64,
     pub count: u64,

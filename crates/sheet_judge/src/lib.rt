@@ -1,5 +1,7 @@
 // Which refusal comes first, from codes, numbers and lengths alone (document 01, "Refusal numbers", and document 02, Q-11): a function for each
 // refusal, and for each call its list of them. Whether a claim is stale is judged afterwards.
+#![tactic(auto)]
+
 ghost use Rattle.std.specs.Prelude.{◌≡◌, [], ◌∷◌};
 ghost use Rattle.definition.specs.Luffa.{bytes_at};
 ghost use Rattle.definition.specs.Refusal.{first_of, when_done};

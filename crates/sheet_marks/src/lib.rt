@@ -1,5 +1,7 @@
 // A mark: 40 words that hold a state (document 01, "Sheet and marks"). Marks that are too short read as zero, and nothing is written where
 // there is no room.
+#![tactic(auto)]
+
 ghost use Rattle.std.specs.Prelude.{◌≡◌, not, [], ◌*◌, ◌≤◌, length};
 ghost use Rattle.definition.specs.Block.{words_of_all, block_from};
 ghost use Rattle.definition.specs.State.{five, state_of};

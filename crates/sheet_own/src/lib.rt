@@ -1,5 +1,7 @@
 // Saves that bring the planner's own marks and count (document 02, Q-6): judged by these too, then made by the plain call; where it is stale, the
 // marks held are compared with the planner's own.
+#![tactic(auto)]
+
 ghost use Rattle.std.specs.Prelude.{◌≡◌, not, [], ◌∷◌, ◌+◌, ◌*◌, ◌≤◌, length};
 ghost use Rattle.definition.specs.Buffer.{same};
 ghost use Rattle.definition.specs.Refusal.{first_of, when_done};

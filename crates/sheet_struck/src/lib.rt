@@ -1,4 +1,6 @@
 // Whether a record is struck (document 02, Q-11): saves that close up ask it of its 40 bytes, and the plan's calls of those of its note.
+#![tactic(auto)]
+
 ghost use Rattle.std.specs.Prelude.{◌≡◌};
 ghost use Rattle.sheet_definition.specs.Struck.{all_zero};
 

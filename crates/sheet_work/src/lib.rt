@@ -1,5 +1,7 @@
 // The work from a mark to the end of a sheet, which every call uses, and the check of a save by it (document 01, "Sheet and marks"). Every
 // round is run by `rounds::counted_round`, and its count goes on to the answer.
+#![tactic(auto)]
+
 ghost use Rattle.std.specs.Prelude.{◌≡◌, not, ◌+◌, ◌*◌, ◌^◌, ◌<◌, ◌≤◌, length, take};
 ghost use Rattle.definition.specs.Luffa.{bytes_at};
 ghost use Rattle.definition.specs.Buffer.{overwrite, same};
@@ -66,7 +68,7 @@ fn differs(claim: &[u8], digest: &[u8]) -> bool
 }
 
 // What the check of a save found, and the rounds it took.
-#[derive(Drop)]
+#[derive(Clone, Copy)]
 struct Checked {
     stale: bool,
     rounds: u64,
@@ -87,7 +89,7 @@ fn check(code: usize, sheet: &[u8], n: usize, marks: &mut [u32], claim: &[u8]) -
 }
 
 // What a save comes to before it writes: the number that refuses it, or 0, and the rounds run so far.
-#[derive(Drop)]
+#[derive(Clone, Copy)]
 pub struct Admitted {
     pub number: u32,
     pub rounds: u64,

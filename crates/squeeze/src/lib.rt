@@ -1,4 +1,6 @@
 // The final stage: a blank round, and the XOR of all blocks after it, before every eighth output word (source, 3.3 and 5).
+#![tactic(auto)]
+
 ghost use Rattle.std.specs.Prelude.{◌≡◌, ◌/◌, ◌<◌, min, length, get_or, replicate};
 ghost use Rattle.definition.specs.Word.{bytes_of_all};
 ghost use Rattle.definition.specs.Block.{zero_block, xor_all, words_of};
@@ -13,7 +15,7 @@ ghost use Rattle.squeeze.specs.Squeeze.{turned};
 use definition::{Block, Counted, State, Width};
 
 // A state and the output that was last taken.
-#[derive(Drop)]
+#[derive(Clone, Copy)]
 struct Squeezed {
     counted: Counted,
     z: Block,

@@ -1,4 +1,6 @@
 // The step function of the permutation Q_j on one block: SubCrumb, MixWord and AddConstant (source, 4.1 to 4.4).
+#![tactic(auto)]
+
 ghost use Rattle.std.specs.Prelude.{◌≡◌};
 ghost use Rattle.definition.specs.SubCrumb.{sub_crumb};
 ghost use Rattle.definition.specs.MixWord.{mix_word};

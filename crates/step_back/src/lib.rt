@@ -1,4 +1,6 @@
 // The step function of the permutation Q_j undone on one block: AddConstant, MixWord and SubCrumb (source, 4.1 to 4.4; document 02, Q-9).
+#![tactic(auto)]
+
 ghost use Rattle.std.specs.Prelude.{◌≡◌};
 ghost use Rattle.back_definition.specs.Step.{sub_crumb_back, mix_word_back, step_back};
 
