@@ -4,12 +4,8 @@ use mathlib.Core.Path.{refl}
 use Rattle.definition.proofs.Computed.{everything}
 use Rattle.columns_definition.specs.Dump.{up_to}
 use Rattle.columns_definition.specs.Products.{coefficients, products_of, products}
-use Rattle.products.proofs.tables.Statement.{statement}
-use Rattle.products.proofs.tables.Tie as tie
+use Rattle.products.proofs.tables.Goals as goal
 
-returns : tie.Need-returns
+pub returns : goal.returns
 unfolding everything up_to coefficients products_of products
 returns c = refl
-
-pub tables-spec : {M : Type 1} → statement M
-tables-spec = tie.close (tie.spec returns)

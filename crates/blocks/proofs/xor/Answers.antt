@@ -3,12 +3,8 @@
 use mathlib.Core.Path.{refl}
 use Rattle.definition.specs.Block.{◌⊕◌}
 use Rattle.definition.specs.Field.{double}
-use Rattle.blocks.proofs.xor.Statement.{statement}
-use Rattle.blocks.proofs.xor.Tie as tie
+use Rattle.blocks.proofs.xor.Goals as goal
 
-returns : tie.Need-returns
+pub returns : goal.returns
 unfolding ◌⊕◌ double
 returns c = refl
-
-pub xor-spec : {M : Type 1} → statement M
-xor-spec = tie.close (tie.spec returns)

@@ -3,12 +3,8 @@
 use mathlib.Core.Path.{refl}
 use Rattle.definition.specs.Word.{rotl}
 use Rattle.definition.specs.MixWord.{mix_word}
-use Rattle.step.proofs.mix_word.Statement.{statement}
-use Rattle.step.proofs.mix_word.Tie as tie
+use Rattle.step.proofs.mix_word.Goals as goal
 
-returns : tie.Need-returns
+pub returns : goal.returns
 unfolding mix_word rotl
 returns c = refl
-
-pub mix-word-spec : {M : Type 1} → statement M
-mix-word-spec = tie.close (tie.spec returns)

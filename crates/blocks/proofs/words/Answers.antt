@@ -3,12 +3,8 @@
 use mathlib.Core.Path.{refl}
 use Rattle.definition.specs.Block.{words_of, words_of_all}
 use Rattle.definition.specs.State.{five}
-use Rattle.blocks.proofs.words.Statement.{statement}
-use Rattle.blocks.proofs.words.Tie as tie
+use Rattle.blocks.proofs.words.Goals as goal
 
-returns : tie.Need-returns
+pub returns : goal.returns
 unfolding words_of_all five words_of
 returns c = refl
-
-pub words-spec : {M : Type 1} → statement M
-words-spec = tie.close (tie.spec returns)

@@ -3,12 +3,8 @@
 use mathlib.Core.Path.{refl}
 use Rattle.definition.specs.Block.{◌⊕◌}
 use Rattle.definition.specs.Field.{double}
-use Rattle.blocks.proofs.double.Statement.{statement}
-use Rattle.blocks.proofs.double.Tie as tie
+use Rattle.blocks.proofs.double.Goals as goal
 
-returns : tie.Need-returns
+pub returns : goal.returns
 unfolding ◌⊕◌ double
 returns c = refl
-
-pub double-spec : {M : Type 1} → statement M
-double-spec = tie.close (tie.spec returns)
