@@ -1,7 +1,7 @@
 -- Where bits are zero, and where words are: the bits of a byte after its first ones, and the words of a block.
 -- Assumes nothing.
 use Rattle.std.proofs.Common.{◌≡◌, ℕ, zero, suc, ◌+◌, ◌-◌, ◌*◌, ◌/◌, ◌%◌, ◌^◌, ◌<◌, ◌≤◌, true, ◌&&◌, eqb, List, [], ◌∷◌, ◌++◌, length, get_or, take, drop, replicate, sym, refl, ap, ◌∙◌, add-zero, mod-eq_of_lt, arith, length-drop, get_or-drop, drop-drop, take-add}
-use mathlib.Core.Bool.{and_true, and_assoc}
+use mathlib.Core.Bool.{and-true, and_assoc}
 use native.Mathlib.Nat.{mul-mod_left}
 use lib.Pow.{mod-pow-add, shl-shr}
 use lib.Seq.{drop-append-le}
@@ -37,10 +37,10 @@ word-zero a b c d =
 four-zero : (z : List ℕ) → all_zero (take 4 z) ≡ eqb (word_of (get_or z 0 0) (get_or z 1 0) (get_or z 2 0) (get_or z 3 0)) 0
 unfolding all_zero
 four-zero [] = simp word-zero
-four-zero (a ∷ []) = simp (word-zero, and_true)
-four-zero (a ∷ b ∷ []) = simp (word-zero, and_true)
-four-zero (a ∷ b ∷ c ∷ []) = simp (word-zero, and_true, and_assoc)
-four-zero (a ∷ b ∷ c ∷ d ∷ z) = simp (word-zero, and_true, and_assoc)
+four-zero (a ∷ []) = simp (word-zero, and-true)
+four-zero (a ∷ b ∷ []) = simp (word-zero, and-true)
+four-zero (a ∷ b ∷ c ∷ []) = simp (word-zero, and-true, and_assoc)
+four-zero (a ∷ b ∷ c ∷ d ∷ z) = simp (word-zero, and-true, and_assoc)
 
 -- so the words of a block are where the bytes are that it is read from
 abbrev words : (k j : ℕ) → List ℕ → List ℕ

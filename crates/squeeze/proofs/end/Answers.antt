@@ -21,8 +21,8 @@ returns c =
     let out = a.out.now in
     let n : ℕ = min a.words (length out / 4) in
     -- what is put out are the words of the state after the padded end
-    let z : _ ≡ overwrite (bytes_of_all (final a.w n (blocks_in a.w c.absorb_last-d.result.state))) out = c.squeeze-e.ensures.out_after in (
-      ap (λ (x : Counted). x.rounds) c.squeeze-e.ensures.value ∙ final-counted a.w _ n (omega arith),
-      (rw c.absorb_last-d.ensures at z)
-          ∙ ap (λ (h : List Block). overwrite (bytes_of_all (final a.w n h)) out) (counted-blocks a.w _ _),
-    )
+    let z : _ ≡ overwrite (bytes_of_all (final a.w n (blocks_in a.w c.absorb_last-d.result.state))) out = c.squeeze-e.ensures.out_after in record {
+      value = ap (λ (x : Counted). x.rounds) c.squeeze-e.ensures.value ∙ final-counted a.w _ n (omega arith);
+      out_after = (rw c.absorb_last-d.ensures at z)
+          ∙ ap (λ (h : List Block). overwrite (bytes_of_all (final a.w n h)) out) (counted-blocks a.w _ _);
+    }

@@ -45,8 +45,8 @@ returns c =
     let n : l.i ≡ min a.words (length a.out.now / 4) = omega arith in
     let zero = c.zero.ensures in
     let used = c.used.ensures in
-    let m : ℕ = min a.words (length a.out.now / 4) in (
-      ap (λ (q : Squeezed). q.counted) (rw (n, used, zero) at l.invariant.2) ∙ rounds-after a.w a.c m,
-      (rw (n, used, zero) at l.invariant.3)
-          ∙ ap (λ (ws : List ℕ). overwrite (bytes_of_all ws) a.out.now) (words-final a.w a.c m),
-    )
+    let m : ℕ = min a.words (length a.out.now / 4) in record {
+      value = ap (λ (q : Squeezed). q.counted) (rw (n, used, zero) at l.invariant.2) ∙ rounds-after a.w a.c m;
+      out_after = (rw (n, used, zero) at l.invariant.3)
+          ∙ ap (λ (ws : List ℕ). overwrite (bytes_of_all ws) a.out.now) (words-final a.w a.c m);
+    }

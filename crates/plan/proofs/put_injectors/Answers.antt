@@ -1,0 +1,60 @@
+-- `plan::put_injectors` meets its contract. The loop's invariant: the injectors of what is left and those in the set are all.
+-- Assumes nothing.
+use mathlib.Core.Path.{◌≡◌, ◌∙◌, fun_ext}
+use mathlib.Core.Logic.◌⊎◌.{inl, inr}
+use mathlib.Core.Bool.{◌||◌}
+use mathlib.Core.List.{◌∷◌}
+use Prim.Native.Nat.{ℕ, suc, ◌-◌}
+use native.Mathlib.Numerals.{add-one}
+use native.Mathlib.Omega.{arith}
+use borrow.Author.Tests.{eq-eqb, ne_eqb}
+use Rattle.plan_definition.specs.Some.{some}
+use Rattle.plan_definition.specs.Rules.{injector, is_injector_of}
+use Rattle.plan_definition.specs.Well.{wells}
+use Rattle.plan_definition.proofs.Places.{well_at, left, left_all, left_step, left_none}
+use Rattle.plan_numbers.specs.Numbers.{has}
+use Rattle.plan_record.proofs.Total.{well_read}
+use Rattle.plan.specs.Sets.{plus_injectors}
+use Rattle.plan.proofs.Passed.{with_injector, with_other}
+use Rattle.plan.proofs.put_injectors.Goals as goal
+
+pub loop-i-init : goal.loop-i-init
+loop-i-init c = (omega arith, λ k. rw (left_all c.args.n c.args.sheet.now))
+
+-- the well that is read is the one at the place
+read : (c : goal.Joined-w-eq-INJECTOR) → c.read-w.result ≡ well_at c.loop-i.i c.args.sheet.now
+read c = c.read-w.ensures ∙ well_read _ _ (omega arith)
+
+-- what is left from the place on, and the set before it
+step : (c : goal.Joined-w-eq-INJECTOR) (k : ℕ) →
+    let l = c.loop-i in
+    let a = c.args in
+    (is_injector_of (c.read-w.result ∷ left (suc l.i) a.n a.sheet.now) k || has l.t k)
+    ≡ (is_injector_of (wells a.n a.sheet.now) k || has a.t.now k)
+step c k =
+    let l = c.loop-i in
+    let a = c.args in
+    rw (read c) (rw (left_step a.n a.sheet.now l.i (omega arith)) at (l.invariant.1 k))
+
+pub loop-i-preserved : goal.loop-i-preserved
+unfolding injector
+loop-i-preserved c =
+    let a = c.args in
+    let i = c.loop-i.i in
+    let ws = left (suc i) a.n a.sheet.now in
+    let w = c.read-w.result in
+    let t = c.loop-i.t in (
+      omega arith,
+      λ k. rw (add-one i) (elim c.if-w-eq-INJECTOR.branch [
+        | inl s ↦ with_injector w ws t k c.if-w-eq-INJECTOR.t (eq-eqb w.kind 2 (omega (arith, s.0.taken))) (rw s.3 s.2.ensures) ∙ step c k
+        | inr s ↦ rw s.1 (with_other w ws t k (ne_eqb w.kind 2 (λ e. omega (arith, s.0.left))) ∙ step c k)
+      ]),
+    )
+
+pub returns : goal.returns
+unfolding plus_injectors is_injector_of some
+returns c =
+    let l = c.loop-i in
+    let a = c.args in
+    let e : l.i ≡ a.n = omega arith in
+    fun_ext (λ k. rw (left_none a.n a.sheet.now) at (rw e at (l.invariant.1 k)))
