@@ -1,12 +1,10 @@
 -- `plan::first_broken` meets its contract. The loop's invariant: what is left decides, and the set has the numbers of the places passed.
 -- Assumes nothing.
 use mathlib.Core.Path.{◌≡◌, sym, ap, ◌∙◌}
-use mathlib.Core.Logic.◌⊎◌.{inl, inr}
 use mathlib.Core.Bool.{Bool, ◌||◌}
 use Prim.Native.Nat.{ℕ, suc, ◌-◌}
 use native.Mathlib.Numerals.{add-one}
 use native.Mathlib.Omega.{arith}
-use borrow.Author.Tests.{not-true, not-false}
 use lib.Dec.{eqb}
 use Rattle.definition.specs.Refusal.{first_of}
 use Rattle.plan_definition.specs.Well.{well_of, wells}
@@ -20,6 +18,7 @@ use Rattle.plan_numbers.proofs.Numbers.{none_has}
 use Rattle.plan_record.proofs.Total.{well_read}
 use Rattle.plan.proofs.Passed.{by_sets}
 use Rattle.plan.proofs.first_broken.Goals as goal
+use Rattle.plan.proofs.first_broken.Goals.{then-not-struck+else-rule-ne-NONE, else-not-struck}
 
 pub loop-i-init : goal.loop-i-init
 loop-i-init c =
@@ -70,14 +69,6 @@ unfolding well_of
 rule c =
     sym (c.broken-rule.ensures ∙ by_sets _ _ _ _ _ c.requires.1 c.loop-i.invariant.1 (read-2 c) (told-2 c ∙ c.if-not-struck.true))
 
--- the rule that is given is that, among the wells of the sheet
-rule-2 : (c : goal.Joined-not-struck) →
-    let a = c.args in
-    first_of (rules_at (wells a.n a.sheet.now) (well_at c.loop-i.i a.sheet.now)) ≡ c.broken-rule.result
-unfolding well_of
-rule-2 c =
-    sym (c.broken-rule.ensures ∙ by_sets _ _ _ _ _ c.requires.1 c.loop-i.invariant.1 (read c) (told c ∙ c.if-not-struck.true))
-
 pub returns-then-rule-ne-NONE : goal.returns-then-rule-ne-NONE
 returns-then-rule-ne-NONE c =
     rw c.rule_of.ensures (sym (found c.broken-rule.result _ _ (omega arith)) ∙ (rw (rule c) at (step c)))
@@ -89,17 +80,18 @@ loop-i-preserved c =
     let a = c.args in
     let next = before-step a.n a.sheet.now l.i in
     elim c.if-not-struck.branch [
-      | inl s ↦
-          let b : tie.After-broken = record { before = record { before = record { before = c; if1 = s.0 }; seen = s.1 }; broken = s.2 } in (
+      | then-not-struck+else-rule-ne-NONE s ↦
+          let b : first_of (rules_at (wells a.n a.sheet.now) (well_at l.i a.sheet.now)) ≡ s.broken-rule.result =
+          unfold well_of in sym (s.broken-rule.ensures ∙ by_sets _ _ _ _ _ c.requires.1 l.invariant.1 (read c) (told c ∙ s.if-not-struck.true)) in (
             omega arith,
-            λ k. rw (add-one l.i, s.6) (ap (λ (f : ℕ → Bool). f k) s.5.ensures ∙ (λ j. eqb (read c j).number k || l.inv.1 k j)
-                ∙ sym (rw (told c ∙ not-true _ s.0.taken) at (next k (omega arith)))),
-            rw (add-one l.i) (rw (rule-2 b, s.3.left) at (step-2 c)),
+            λ k. rw (add-one l.i, s.seen-is) (ap (λ (f : ℕ → Bool). f k) s.put.ensures ∙ (λ j. eqb (read c j).number k || l.invariant.1 k j)
+                ∙ sym (rw (told c ∙ s.if-not-struck.true) at (next k (omega arith)))),
+            rw (add-one l.i) (rw (b, s.if-rule-ne-NONE.false) at (step-2 c)),
           )
-      | inr s ↦
-          let gone = told c ∙ not-false _ s.0.left in (
+      | else-not-struck s ↦
+          let gone = told c ∙ s.if-not-struck.false in (
             omega arith,
-            λ k. rw (add-one l.i, s.1) (l.inv.1 k ∙ sym (rw gone at (next k (omega arith)))),
+            λ k. rw (add-one l.i, s.seen-is) (l.invariant.1 k ∙ sym (rw gone at (next k (omega arith)))),
             rw (add-one l.i) (rw (exempt_rules _ _ gone) at (step-2 c)),
           )
     ]

@@ -1,7 +1,6 @@
 -- `plan::put_injectors` meets its contract. The loop's invariant: the injectors of what is left and those in the set are all.
 -- Assumes nothing.
 use mathlib.Core.Path.{◌≡◌, ◌∙◌, fun_ext}
-use mathlib.Core.Logic.◌⊎◌.{inl, inr}
 use mathlib.Core.Bool.{◌||◌}
 use mathlib.Core.List.{◌∷◌}
 use Prim.Native.Nat.{ℕ, suc, ◌-◌}
@@ -17,6 +16,7 @@ use Rattle.plan_record.proofs.Total.{well_read}
 use Rattle.plan.specs.Sets.{plus_injectors}
 use Rattle.plan.proofs.Passed.{with_injector, with_other}
 use Rattle.plan.proofs.put_injectors.Goals as goal
+use Rattle.plan.proofs.put_injectors.Goals.{then-w-eq-INJECTOR, else-w-eq-INJECTOR}
 
 pub loop-i-init : goal.loop-i-init
 loop-i-init c = (omega arith, λ k. rw (left_all c.args.n c.args.sheet.now))
@@ -46,8 +46,8 @@ loop-i-preserved c =
     let t = c.loop-i.t in (
       omega arith,
       λ k. rw (add-one i) (elim c.if-w-eq-INJECTOR.branch [
-        | inl s ↦ with_injector w ws t k c.if-w-eq-INJECTOR.t (eq-eqb w.kind 2 (omega (arith, s.0.taken))) (rw s.3 s.2.ensures) ∙ step c k
-        | inr s ↦ rw s.1 (with_other w ws t k (ne_eqb w.kind 2 (λ e. omega (arith, s.0.left))) ∙ step c k)
+        | then-w-eq-INJECTOR s ↦ with_injector w ws t k c.if-w-eq-INJECTOR.t (eq-eqb w.kind 2 (omega (arith, s.if-w-eq-INJECTOR.true))) (rw s.t-is s.put.ensures) ∙ step c k
+        | else-w-eq-INJECTOR s ↦ rw s.t-is (with_other w ws t k (ne_eqb w.kind 2 (λ e. omega (arith, s.if-w-eq-INJECTOR.false))) ∙ step c k)
       ]),
     )
 

@@ -2,7 +2,7 @@
 -- Assumes nothing.
 use mathlib.Core.Path.{◌≡◌, sym}
 use mathlib.Core.List.{[], ◌∷◌}
-use Prim.Native.Nat.{ℕ, suc, ◌≤◌}
+use Prim.Native.Nat.{◌≤◌}
 use native.Mathlib.Decide.{dec_lt}
 use native.Mathlib.Omega.{arith}
 use lib.ListN.{get_or-eq_default}
@@ -10,20 +10,14 @@ use Rattle.plan_definition.specs.declared.Rule.TheVariants.{Number, Kind, LinkCo
 use Rattle.plan_definition.specs.Check.{rule_of}
 use Rattle.plan.proofs.rule_of.Goals as goal
 
-above : {a k : ℕ} → a ≤ k → (k ≡ a → ⊥) → suc a ≤ k
-above h d = omega arith
-
 pub returns-in_default : goal.returns-in_default
 unfolding rule_of
 returns-in_default c =
     let k = c.args.number in
-    let h = c.in-1.rest in
     elim (dec_lt k 1) [
       | yes l ↦ let e : k ≡ 0 = omega arith in rw e
       | no l ↦
-          let one : 1 ≤ k = omega arith in
-          let g : 8 ≤ k =
-          above (above (above (above (above (above (above one h.0.0.0.0.0.0.1) h.0.0.0.0.0.1) h.0.0.0.0.1) h.0.0.0.1) h.0.0.1) h.0.1) h.1 in
+          let g : 8 ≤ k = omega arith in
           sym (get_or-eq_default (Repeat ∷ Number ∷ Kind ∷ LinkCount ∷ Rate ∷ Links ∷ Shares ∷ UnusedLinks ∷ []) Repeat g)
     ]
 

@@ -1,0 +1,11 @@
+-- `columns::element` meets its contract.
+-- Assumes nothing.
+use native.Mathlib.Omega.{arith}
+use Rattle.definition.specs.Word.{bit, from_bits}
+use Rattle.definition.specs.Block.{words_of}
+use Rattle.definition.specs.Field.{element}
+use Rattle.columns.proofs.element.Goals as goal
+
+pub returns : goal.returns
+unfolding element from_bits words_of bit
+returns c = omega arith
