@@ -45,7 +45,10 @@ pub returns-then-not-differs : goal.returns-then-not-differs
 unfolding noted put pick
 returns-then-not-differs c =
     let t : other _ _ _ ≡ false = sym (said c) ∙ c.if-not-differs.true in
-    rw t (refl, refl)
+    record {
+      value = rw t refl;
+      marks_after = rw t refl;
+    }
 
 -- where it has, the state is written in its place
 written : (k : goal.Then-found-eq0) → let a = k.args in
@@ -67,11 +70,17 @@ pub returns-then-found-eq0 : goal.returns-then-found-eq0
 unfolding noted pick
 returns-then-found-eq0 c =
     let z : c.args.found.wrong ≡ 0 = c.if-found-eq0.true in
-    rw ((written c).0, z) (refl, (written c).1)
+    record {
+      value = rw ((written c).0, z) refl;
+      marks_after = rw (written c).0 (written c).1;
+    }
 
 pub returns : goal.returns
 unfolding noted pick
 returns c =
     let f = c.args.found in
     let z : eqb f.wrong 0 ≡ false = ne_eqb f.wrong 0 c.if-found-eq0.false in
-    rw ((written-2 c).0, z) (refl, (written-2 c).1)
+    record {
+      value = rw ((written-2 c).0, z) refl;
+      marks_after = rw (written-2 c).0 (written-2 c).1;
+    }

@@ -79,9 +79,9 @@ loop-k-preserved c =
     let w = c.width-w.ensures in
     let u = l.invariant.2 in
     let v = found-3 c in
-    let e = looked v l.k l.c l.found l.marks u c.look-found.result _ (omega arith) c.look-found.ensures in (
+    let e = looked v l.k l.c l.found l.marks u c.look-found.result _ (omega arith) (c.look-found.ensures.value, c.look-found.ensures.marks_after) in (
       (omega arith, refl, omega arith, omega arith, omega arith),
-      (omega arith, c.look-found.auto.1.0 ∙ l.invariant.1.1),
+      (omega arith, c.look-found.auto.marks ∙ l.invariant.1.1),
       rw (add-one l.k) (absorbed v l.k l.c l.found l.marks u c.absorb-c.result c.look-found.result _ (omega arith) (omega arith) (rw w at c.absorb-c.ensures) e),
     )
 
@@ -93,7 +93,7 @@ returns c =
     let a = c.args in
     let v = found-4 c in
     let d : l.k ≡ a.n / 4 = omega arith in
-    let o = looked v l.k l.c l.found l.marks u c.look-found-2.result _ (omega arith) (rw (← d) at c.look-found-2.ensures) in
+    let o = looked v l.k l.c l.found l.marks u c.look-found-2.result _ (omega arith) (rw (← d) at c.look-found-2.ensures.value, rw (← d) at c.look-found-2.ensures.marks_after) in
     ended v l.k l.c l.found l.marks u c.look-found-2.result _ d o ∙ mend_done v (judged-3 c) c.if-number-ne-DONE.false
 
 pub look-found-requires : goal.look-found-requires
@@ -106,4 +106,4 @@ look-found-requires-2 c =
 
 pub shape_of-marks : goal.shape_of-marks
 shape_of-marks c =
-    c.look-found-2.auto.1.0 ∙ c.loop-k.invariant.1.1
+    c.look-found-2.auto.marks ∙ c.loop-k.invariant.1.1

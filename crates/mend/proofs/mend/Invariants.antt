@@ -10,7 +10,7 @@ abbrev pub invariant-loop-k : goal.invariant-loop-k
 invariant-loop-k l =
     ((l.k ≤ l.last) × (l.last ≡ l.n / 4) × (l.n ≤ most) × (record_bytes * l.n ≤ length l.sheet) × (length l.sheet < 2 ^ 63))
     × ((mark_words * (l.n / 4 + 1) ≤ length l.initial.marks) × (length l.marks ≡ length l.initial.marks))
-    × Upto (record { l.code = l.code; l.n = l.n; l.sheet = l.sheet; l.marks = l.initial.marks }) l.k l.c l.found l.marks
+    × Upto (record { code = l.code; n = l.n; sheet = l.sheet; marks = l.initial.marks }) l.k l.c l.found l.marks
 
 abbrev pub decreases-loop-k : goal.decreases-loop-k
 decreases-loop-k l = l.last - l.k

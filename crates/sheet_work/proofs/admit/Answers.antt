@@ -21,6 +21,6 @@ unfolding admission when_done
 returns c =
     let d = c.check-c.ensures in
     record {
-      value = rw (c.if-number-ne-DONE.false, c.when.ensures, d.0);
-      marks_unchanged = d.1;
+      value = rw (c.if-number-ne-DONE.false, c.when.ensures, d.value);
+      marks_unchanged = d.marks_unchanged;
     }

@@ -23,17 +23,17 @@ work_on-rounds-requires c =
 pub differs-requires : goal.differs-requires
 differs-requires c =
     let a = c.args in
-    in_front_lem a.code a.n _ a.sheet.now a.marks.now a.claim.now _ _ c.requires.3 c.work_on-rounds.ensures.marks_after.1
+    in_front_lem a.code a.n _ a.sheet.now a.marks.now a.claim.now _ _ c.requires.3 c.work_on-rounds.ensures.out_after
 
 pub returns : goal.returns
 unfolding checked stale_claim q
 returns c =
     let a = c.args in
     let e = c.work_on-rounds.ensures in
-    let d = compared a.code a.n _ a.sheet.now a.marks.now a.claim.now _ _ c.requires.3 e.1.1 in record {
+    let d = compared a.code a.n _ a.sheet.now a.marks.now a.claim.now _ _ c.requires.3 e.out_after in record {
       value = λ i. record {
         stale = (c.differs.ensures ∙ ap (λ (x : List ℕ). not (same a.claim.now x)) d) i;
-        rounds = (e.0 ∙ zero-add _) i;
+        rounds = (e.value ∙ zero-add _) i;
       };
-      marks_unchanged = e.1.0 ∙ check_leaves a.code a.n a.sheet.now a.marks.now;
+      marks_unchanged = e.marks_after ∙ check_leaves a.code a.n a.sheet.now a.marks.now;
     }

@@ -17,7 +17,7 @@ unfolding q
 loop-k-preserved c =
     let l = c.loop-k in
     let a = c.args in
-    let n = c.write.auto.0 in (
+    let n = c.write.auto.marks in (
       (omega arith, refl, omega arith, omega arith, omega arith),
       (omega (arith, n), n ∙ l.invariant.1.1),
       group-on _ a.n l.k l.c c.absorb-c.result a.sheet.now l.marks _ (omega arith) (omega arith) (omega arith) c.absorb-c.ensures
@@ -32,13 +32,17 @@ returns c =
     let w = c.width-w.ensures in
     let a = c.args in
     let marks = a.marks.now in
-    all_worked a.code a.n a.m a.before a.sheet.now marks a.out.now c.read.result l.k l.c c.absorb_last-d.result l.marks
+    let z = all_worked a.code a.n a.m a.before a.sheet.now marks a.out.now c.read.result l.k l.c c.absorb_last-d.result l.marks
     ((rw w at c.read.ensures) ∙ read_at marks a.m (omega arith) _)
     (omega (arith, l.invariant.0, c.loop-k-test.false))
     (rw w at l.invariant.2)
     (rw w at c.absorb_last-d.ensures)
-    c.pre.1 c.pre.5 c.squeeze-e.result _ c.pre.0 c.pre.4 l.invariant.1.0
-    (rw (c.words.ensures, w) at c.squeeze-e.ensures)
+    c.requires.1 c.requires.5 c.squeeze-e.result _ c.requires.0 c.requires.4 l.invariant.1.0
+    (rw (c.words.ensures, w) at c.squeeze-e.ensures.value, rw (c.words.ensures, w) at c.squeeze-e.ensures.out_after) in record {
+      value = z.0;
+      marks_after = z.1.0;
+      out_after = z.1.1;
+    }
 
 pub shape_of-marks : goal.shape_of-marks
 shape_of-marks c =

@@ -1,0 +1,124 @@
+-- `brine_sheet::send` meets its contract. The loop's invariant: what is there and what is left to bring are the whole.
+-- Assumes nothing.
+use mathlib.Core.Path.{◌≡◌, refl, ◌∙◌}
+use Prim.Native.Nat.{ℕ, suc, ◌+◌, ◌-◌, ◌*◌, ◌^◌, ◌<◌}
+use native.Mathlib.Numerals.{add-one}
+use native.Mathlib.Omega.{arith}
+use borrow.Author.Rules.{rules}
+use borrow.Author.Tests.{eq-eqb}
+use lib.Dec.{eqb}
+use lib.ListN.{length, get_or, length-set}
+use lib.Seq.{slice, slice_empty, length-slice, get_or-take}
+use Rattle.definition.specs.Refusal.{pick}
+use Rattle.plan_definition.specs.Well.{no_link}
+use Rattle.plan_definition.proofs.Some.{at_index}
+use Rattle.brine_sheet.specs.Sent.{Named, brought_to, Added, Takes}
+use Rattle.brine_sheet.proofs.Sends.{put_more, brought_left}
+use Rattle.brine_sheet.proofs.send.Goals as goal
+
+pub loop-k-init : goal.loop-k-init
+loop-k-init c = (omega arith, refl, λ q. refl)
+
+four : (s : goal.After-struct_known-1) → length s.args.links ≡ 4
+four s = search rules
+
+four-2 : (s : goal.After-at-p) → length s.args.links ≡ 4
+four-2 s = search rules
+
+four-3 : (s : goal.After-slice_known-in-loop-k-1-unread) → length s.args.links ≡ 4
+four-3 s = search rules
+
+-- the kilograms that the next link brings
+abbrev kilograms : goal.After-struct_known-1 → ℕ
+kilograms c = c.args.rate * (get_or c.args.links c.loop-k.k no_link).share
+
+-- it leads to a place of the list
+below : (c : goal.After-struct_known-1) → c.at-p.result < length c.loop-k.intake
+unfolding Named
+below c =
+    let l = c.loop-k in
+    let a = c.args in
+    let there = length-slice 0 a.count a.links (omega (arith, four c, c.requires.0)) in
+    let named = c.requires.1 _ (at_index (slice 0 a.count a.links) l.k no_link (omega arith)) in
+    rw (c.at-p.ensures, l.inv.1, ← get_or-take a.count a.links l.k no_link (omega arith)) named
+
+-- it leads to a place of the list
+below-2 : (c : goal.After-at-p) → c.at-p.result < length c.loop-k.intake
+unfolding Named
+below-2 c =
+    let l = c.loop-k in
+    let a = c.args in
+    let there = length-slice 0 a.count a.links (omega (arith, four-2 c, c.requires.0)) in
+    let named = c.requires.1 _ (at_index (slice 0 a.count a.links) l.k no_link (omega arith)) in
+    rw (c.at-p.ensures, l.inv.1, ← get_or-take a.count a.links l.k no_link (omega arith)) named
+
+-- it leads to a place of the list
+below-3 : (c : goal.After-slice_known-in-loop-k-1-unread) → c.at-p.result < length c.loop-k.intake
+unfolding Named
+below-3 c =
+    let l = c.loop-k in
+    let a = c.args in
+    let there = length-slice 0 a.count a.links (omega (arith, four-3 c, c.requires.0)) in
+    let named = c.requires.1 _ (at_index (slice 0 a.count a.links) l.k no_link (omega arith)) in
+    rw (c.at-p.ensures, l.inv.1, ← get_or-take a.count a.links l.k no_link (omega arith)) named
+
+-- what is there, what the link brings and what the links after it bring are the whole
+step : (c : goal.After-struct_known-1) (q : ℕ) →
+    let a = c.args in
+    let l = c.loop-k in
+    get_or l.intake q 0
+    + (pick (eqb c.at-p.result q) (kilograms c) 0 + brought_to a.places.now a.rate (slice (suc l.k) a.count a.links) q)
+    ≡ get_or a.intake.now q 0 + brought_to a.places.now a.rate (slice 0 a.count a.links) q
+step c q =
+    let l = c.loop-k in
+    let a = c.args in
+    let left = brought_left a.places.now a.rate l.k a.count a.links q (omega arith) (omega (arith, four c, c.requires.0)) in
+    rw (c.at-p.ensures, ← left) (l.inv.2 q)
+
+-- so no sum passes 64 bits
+fits : (c : goal.After-struct_known-1) → get_or c.loop-k.intake c.at-p.result 0 + kilograms c < 2 ^ 64
+unfolding Takes pick
+fits c =
+    let p = c.at-p.result in
+    let whole = c.requires.2 p (rw (← c.loop-k.inv.1) (below c)) in
+    omega (arith, whole, rw (eq-eqb p p refl) at (step c p))
+
+pub loop-k-preserved : goal.loop-k-preserved
+loop-k-preserved c =
+    let l = c.loop-k in (
+      omega arith,
+      length-set l.intake c.at-p.result _ ∙ l.inv.1,
+      λ q. rw (add-one l.k) (omega (arith, step c q, put_more l.intake c.at-p.result (kilograms c) q (below c))),
+    )
+
+pub returns : goal.returns
+unfolding Added brought_to
+returns c =
+    let l = c.loop-k in
+    let a = c.args in
+    let e : l.k ≡ a.count = omega arith in
+    λ q. omega (arith, rw (slice_empty a.count a.links) at (rw e at (l.invariant.2 q)))
+
+pub offset_bounds-intake-p : goal.offset_bounds-intake-p
+offset_bounds-intake-p c =
+    omega (arith, below-2 c)
+
+pub bounds-intake-p : goal.bounds-intake-p
+bounds-intake-p c =
+    below-3 c
+
+pub overflow_mul-intake : goal.overflow_mul-intake
+overflow_mul-intake c =
+    omega (arith, fits c)
+
+pub offset_bounds-intake-p-in-loop-k : goal.offset_bounds-intake-p-in-loop-k
+offset_bounds-intake-p-in-loop-k c =
+    omega (arith, below c)
+
+pub bounds-intake-p-in-loop-k : goal.bounds-intake-p-in-loop-k
+bounds-intake-p-in-loop-k c =
+    below c
+
+pub shape_of-intake : goal.shape_of-intake
+shape_of-intake c =
+    c.loop-k.invariant.1

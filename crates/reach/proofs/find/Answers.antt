@@ -1,0 +1,82 @@
+-- `reach::find` meets its contract: no well has 0. The loop's invariant: what is left decides.
+-- Assumes nothing.
+use mathlib.Core.Path.{◌≡◌, sym, ap, ◌∙◌}
+use mathlib.Core.Bool.{false, ◌||◌}
+use mathlib.Core.List.{List}
+use Prim.Native.Nat.{ℕ, suc, ◌-◌}
+use native.Mathlib.Numerals.{add-one}
+use native.Mathlib.Omega.{arith}
+use borrow.Author.Tests.{eq-eqb, ne_eqb, lt-ltb, le-ltb}
+use lib.Dec.{eqb}
+use Rattle.plan_definition.specs.declared.Well.{Well}
+use Rattle.plan_definition.specs.Some.{some}
+use Rattle.plan_definition.specs.Well.{wells}
+use Rattle.plan_definition.specs.Rules.{has_number}
+use Rattle.plan_definition.proofs.Struck.{of_number}
+use Rattle.plan_definition.proofs.Places.{left, left_all, left_step, left_none}
+use Rattle.reach_definition.proofs.Refused.{none_named, none_zero}
+use Rattle.reach.specs.Level.{FoundAt}
+use Rattle.reach.proofs.Wells.{numbered, reads}
+use Rattle.reach.proofs.find.Goals as goal
+
+-- past the last record there is none
+none_there : {sheet : List ℕ} {n well : ℕ} → some (has_number well) (wells n sheet) ≡ false → FoundAt sheet n well n
+none_there {n = n} e = record {
+  within = omega arith;
+  there = le-ltb n n (omega arith) ∙ sym e;
+  stands-there = λ h. absurd (omega arith);
+  number-there = λ h. absurd (omega arith);
+}
+
+pub returns-then-well-eq0 : goal.returns-then-well-eq0
+returns-then-well-eq0 c =
+    let ws = wells c.args.n c.args.sheet.now in
+    rw c.if-well-eq0.true (none_there ((none_named ws 0).1 (none_zero ws c.requires.sound)))
+
+pub loop-i-init : goal.loop-i-init
+loop-i-init c = let a = c.args in (omega arith, rw (left_all a.n a.sheet.now))
+
+-- the well at the place has the number, or one after it has
+step : (c : goal.Then-w-well) →
+    let a = c.args in
+    let i = c.loop-i.i in
+    eqb c.read-w.result.number a.well || some (has_number a.well) (left (suc i) a.n a.sheet.now)
+    ≡ some (has_number a.well) (wells a.n a.sheet.now)
+unfolding some
+step c =
+    let l = c.loop-i in
+    rw (c.read-w.ensures, reads c.requires {i = l.i} (omega arith), ← numbered c.args.well _ c.if-well-eq0.false) (rw (left_step c.args.n c.args.sheet.now l.i (omega arith)) at l.invariant.1)
+
+-- the well at the place has the number, or one after it has
+step-2 : (c : goal.Else-w-well) →
+    let a = c.args in
+    let i = c.loop-i.i in
+    eqb c.read-w.result.number a.well || some (has_number a.well) (left (suc i) a.n a.sheet.now)
+    ≡ some (has_number a.well) (wells a.n a.sheet.now)
+unfolding some
+step-2 c =
+    let l = c.loop-i in
+    rw (c.read-w.ensures, reads c.requires {i = l.i} (omega arith), ← numbered c.args.well _ c.if-well-eq0.false) (rw (left_step c.args.n c.args.sheet.now l.i (omega arith)) at l.invariant.1)
+
+pub returns-then-w-well : goal.returns-then-w-well
+returns-then-w-well c =
+    let l = c.loop-i in
+    let number = ap (λ (w : Well). w.number) (sym c.read-w.ensures) ∙ c.if-w-well.true in
+    record {
+      within = omega arith;
+      there = lt-ltb l.i c.args.n (omega arith) ∙ (rw (eq-eqb _ _ c.if-w-well.true) at (step c));
+      stands-there = λ h. of_number _ (λ z. c.if-well-eq0.false (sym number ∙ z));
+      number-there = λ h. number;
+    }
+
+pub loop-i-preserved : goal.loop-i-preserved
+loop-i-preserved c =
+    (omega arith, rw (add-one c.loop-i.i) (rw (ne_eqb _ _ c.if-w-well.false) at (step-2 c)))
+
+pub returns : goal.returns
+unfolding some
+returns c =
+    let l = c.loop-i in
+    let a = c.args in
+    let e : l.i ≡ a.n = omega arith in
+    none_there (sym (rw (left_none a.n a.sheet.now) at (rw e at l.invariant.1)))

@@ -1,0 +1,22 @@
+-- The invariants of `reach::mark`.
+use mathlib.Core.Path.{◌≡◌}
+use mathlib.Core.Bool.{Bool}
+use mathlib.Core.List.{List}
+use Prim.Native.Nat.{ℕ, ◌-◌, ◌≤◌}
+use lib.ListN.{length}
+use Rattle.plan_definition.proofs.Places.{well_at}
+use Rattle.plan_numbers.specs.Numbers.{has}
+use Rattle.reach.specs.Sets.{touches}
+use Rattle.reach.proofs.Steps.{Upto}
+use Rattle.reach.proofs.mark.Given as goal
+
+-- whether the set touches the well at a place
+abbrev pub test : (sheet taken : List ℕ) → (kind : ℕ) → ℕ → Bool
+test sheet taken kind q = touches (has taken) kind (well_at q sheet)
+
+abbrev pub invariant-loop-i : goal.invariant-loop-i
+invariant-loop-i l =
+    (l.i ≤ l.n) × (length l.reached ≡ length l.initial.reached) × Upto (test l.sheet l.taken l.kind) l.i l.initial.reached l.reached
+
+abbrev pub decreases-loop-i : goal.decreases-loop-i
+decreases-loop-i l = l.n - l.i

@@ -1,0 +1,117 @@
+-- `sheet_close_up::gather` meets its contract. The loop's invariant: of the first i records those that stand are gathered.
+-- Assumes nothing.
+use mathlib.Core.Path.{◌≡◌, sym, ap, ◌∙◌}
+use mathlib.Core.Logic.{inl, inr}
+use mathlib.Core.List.{List}
+use Prim.Native.Nat.{ℕ, ◌-◌, ◌*◌, ◌≤◌}
+use native.Mathlib.Numerals.{add-one}
+use native.Mathlib.Omega.{arith}
+use borrow.Author.Tests.{not-true, not-false}
+use lib.ListN.{length, take, drop}
+use Rattle.definition.specs.Buffer.{overwrite_at}
+use Rattle.sheet_definition.specs.Sheet.{record_bytes}
+use Rattle.sheet_definition.specs.Struck.{all_zero}
+use Rattle.sheet_close_up.proofs.Moved.{part_size, none_gathered, few, sheet-size, places-size, next-record, passed, moved}
+use Rattle.sheet_close_up.proofs.gather.Goals as goal
+
+pub loop-i-init : goal.loop-i-init
+loop-i-init c =
+    let p = c.requires in
+    (omega arith, p.0, p.1, p.2, none_gathered c.args.sheet.now c.args.places.now)
+
+-- so many have been moved as were seen at most, and the buffers keep their lengths
+known : (c : goal.In-loop-i) → let l = c.loop-i in let a = c.args in
+    (l.count ≤ l.i) × (length l.sheet ≡ length a.sheet.now) × (length l.places ≡ length a.places.now)
+known c =
+    let l = c.loop-i in
+    let v = l.invariant in
+    let r : record_bytes * l.i ≤ length c.args.sheet.now = omega (arith, v.0, v.2) in
+    let p : l.i ≤ length c.args.places.now = omega (arith, v.0, v.3) in
+    (few _ _ _ _ _ _ r p v.4, sheet-size _ _ _ _ _ _ r p v.4, places-size _ _ _ _ _ _ r p v.4)
+
+-- so many have been moved as were seen at most, and the buffers keep their lengths
+known-2 : (c : goal.After-move_record-arg-1) → let l = c.loop-i in let a = c.args in
+    (l.count ≤ l.i) × (length l.sheet ≡ length a.sheet.now) × (length l.places ≡ length a.places.now)
+known-2 c =
+    let l = c.loop-i in
+    let v = l.invariant in
+    let r : record_bytes * l.i ≤ length c.args.sheet.now = omega (arith, v.0, v.2) in
+    let p : l.i ≤ length c.args.places.now = omega (arith, v.0, v.3) in
+    (few _ _ _ _ _ _ r p v.4, sheet-size _ _ _ _ _ _ r p v.4, places-size _ _ _ _ _ _ r p v.4)
+
+-- so many have been moved as were seen at most, and the buffers keep their lengths
+known-3 : (c : goal.After-slice_known-then-not-zeros-1) → let l = c.loop-i in let a = c.args in
+    (l.count ≤ l.i) × (length l.sheet ≡ length a.sheet.now) × (length l.places ≡ length a.places.now)
+known-3 c =
+    let l = c.loop-i in
+    let v = l.invariant in
+    let r : record_bytes * l.i ≤ length c.args.sheet.now = omega (arith, v.0, v.2) in
+    let p : l.i ≤ length c.args.places.now = omega (arith, v.0, v.3) in
+    (few _ _ _ _ _ _ r p v.4, sheet-size _ _ _ _ _ _ r p v.4, places-size _ _ _ _ _ _ r p v.4)
+
+-- so many have been moved as were seen at most, and the buffers keep their lengths
+known-4 : (c : goal.After-loop-i) → let l = c.loop-i in let a = c.args in
+    (l.count ≤ l.i) × (length l.sheet ≡ length a.sheet.now) × (length l.places ≡ length a.places.now)
+known-4 c =
+    let l = c.loop-i in
+    let v = l.invariant in
+    let r : record_bytes * l.i ≤ length c.args.sheet.now = omega (arith, v.0, v.2) in
+    let p : l.i ≤ length c.args.places.now = omega (arith, v.0, v.3) in
+    (few _ _ _ _ _ _ r p v.4, sheet-size _ _ _ _ _ _ r p v.4, places-size _ _ _ _ _ _ r p v.4)
+
+-- what was asked of the record at the place is asked of the sheet as it was lent
+asked : (c : goal.Joined-not-zeros) →
+    c.zeros.result ≡ all_zero (take record_bytes (drop (record_bytes * c.loop-i.i) c.args.sheet.now))
+asked c =
+    let l = c.loop-i in
+    let v = l.invariant in
+    c.zeros.ensures ∙ simp part_size (ap all_zero (next-record _ _ l.i _ _ _ (omega (arith, v.0, v.2)) (omega (arith, v.0, v.3)) v.4))
+
+pub loop-i-preserved : goal.loop-i-preserved
+loop-i-preserved c =
+    let l = c.loop-i in
+    let v = l.invariant in
+    let r : record_bytes * l.i ≤ length c.args.sheet.now = omega (arith, v.0, v.2) in
+    let p : l.i ≤ length c.args.places.now = omega (arith, v.0, v.3) in (
+      omega arith,
+      v.1,
+      v.2,
+      v.3,
+      rw (add-one l.i)
+          (elim c.if-not-zeros.branch [
+            | inl s ↦ rw (s.5 ∙ s.2.ensures ∙ ap (λ (x : List ℕ). overwrite_at (record_bytes * l.count) x l.sheet) (next-record _ _ l.i _ _ _ r p v.4), s.6, s.7, add-one l.count)
+                (moved _ _ _ _ _ _ r p v.4 (sym (asked c) ∙ not-true c.zeros.result s.0.taken) (omega (arith, v.3)))
+            | inr s ↦ rw (s.1, s.2, s.3) (passed _ _ _ _ _ _ r p v.4 (sym (asked c) ∙ not-false c.zeros.result s.0.left))
+          ]),
+    )
+
+pub returns : goal.returns
+returns c =
+    let l = c.loop-i in
+    let e : l.i ≡ c.args.n = omega arith in
+    let g = rw e at l.invariant.4 in
+    record {
+      value = g.counted;
+      sheet_after = g.sheet_is;
+      places_after = g.places_are;
+    }
+
+pub slice_bounds-zeros-end : goal.slice_bounds-zeros-end
+slice_bounds-zeros-end c =
+    omega (arith, known c)
+
+pub move_record-requires : goal.move_record-requires
+move_record-requires c =
+    (omega (arith, known-2 c), (known-2 c).0)
+
+pub offset_bounds-places-count : goal.offset_bounds-places-count
+offset_bounds-places-count c =
+    omega (arith, known-3 c)
+
+pub shape_of-sheet : goal.shape_of-sheet
+shape_of-sheet c =
+    (known-4 c).1
+
+pub shape_of-places : goal.shape_of-places
+shape_of-places c =
+    (known-4 c).2
