@@ -38,7 +38,7 @@ fine-2 c = built_fits (lent-2 c) c.args.out.now (sym c.build-number.ensures ∙ 
 pub work_on-rounds-requires : goal.work_on-rounds-requires
 work_on-rounds-requires c =
     let f = fine c in
-    (f.count, f.sheet-room, omega (arith, f.marks-room, c.write.auto.0), omega arith, omega arith, f.out-room)
+    (f.count, f.sheet-room, omega (arith, f.marks-room, c.write.auto.marks), omega arith, omega arith, f.out-room)
 
 pub returns : goal.returns
 unfolding mark_of

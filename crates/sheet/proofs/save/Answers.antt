@@ -83,7 +83,7 @@ work_on-rounds-requires c =
     let j = valid c in (
       j.new_few,
       omega (arith, j.new_sheet_room, ap length c.put_bytes.ensures ∙ length-write_at _ _ _),
-      omega (arith, j.new_marks_room, ap length c.admit-begun.ensures.marks_unchanged, c.clear.auto.0),
+      omega (arith, j.new_marks_room, ap length c.admit-begun.ensures.marks_unchanged, c.clear.auto.marks),
       omega (arith, j.in_groups),
       omega (arith, (goes c).1.0, few-rounds (lent-2 c) j.sheet-room),
       j.out-room,
@@ -105,3 +105,7 @@ returns c =
 pub overflow_mul-place : goal.overflow_mul-place
 overflow_mul-place c =
     omega (arith, (valid-3 c).record-room)
+
+pub admit-begun-requires : goal.admit-begun-requires
+admit-begun-requires c z =
+    let j = c.requires z in (j.few, j.sheet-room, j.marks-room, j.claim-size)

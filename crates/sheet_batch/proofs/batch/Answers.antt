@@ -144,7 +144,7 @@ work_on-rounds-requires c =
     let a = c.args in
     let f = (goes-3 c).room in (
       f.count,
-      omega (arith, f.sheet-room, c.put.auto.0),
+      omega (arith, f.sheet-room, c.put.auto.sheet),
       omega (arith, f.marks-room, ap length c.admit-begun.ensures.marks_unchanged),
       omega (arith, (first_of_lem (λ i. i < a.n) a.places.now (omega arith) (all-2 c).below).0),
       omega (arith, (goes-3 c).checked_so_far, few-rounds (lent-4 c) f.sheet-room),
@@ -156,6 +156,8 @@ unfolding save_of q
 returns c =
     let a = c.args in
     let g = goes-4 c in
-    let o = rw c.admit-begun.ensures.marks_unchanged at (c.work_on-rounds.ensures.value, (c.work_on-rounds.ensures.marks_after, c.work_on-rounds.ensures.out_after)) in
-    some_done (lent-5 c) a.places.now a.records.now a.claim.now a.out.now _ _ _ _ _ (omega arith) g.checked_so_far c.put.ensures o.0 o.1.0 o.1.1
+    let o = c.work_on-rounds.ensures in
+    let m = c.admit-begun.ensures.marks_unchanged in
+    some_done (lent-5 c) a.places.now a.records.now a.claim.now a.out.now _ _ _ _ _ (omega arith) g.checked_so_far c.put.ensures
+    (rw m at o.value) (rw m at o.marks_after) (rw m at o.out_after)
     ∙ g.outcome

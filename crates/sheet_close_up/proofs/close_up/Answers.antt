@@ -162,8 +162,8 @@ work_on-rounds-requires c =
     let f = (goes c).room in
     let l = fewer_left c in (
       omega (arith, l, f.count),
-      omega (arith, l, f.sheet-room, c.zero.kept.0, c.gather-count.kept.0),
-      omega (arith, l, f.marks-room, ap length c.admit-begun.ensures.marks_unchanged, c.clear.auto.0),
+      omega (arith, l, f.sheet-room, c.zero.auto.sheet, c.gather-count.auto.sheet),
+      omega (arith, l, f.marks-room, ap length c.admit-begun.ensures.marks_unchanged, c.clear.auto.marks),
       omega (arith, c.first_struck-first.ensures, c.gather-count.ensures.value, first_stands (cut a.n a.sheet.now)),
       omega (arith, (goes c).checked_so_far, few-rounds (lent-3 c) f.sheet-room),
       f.out-room,
@@ -190,4 +190,4 @@ gather-count-requires c =
 
 pub zero-requires : goal.zero-requires
 zero-requires c =
-    (fewer_left-3 c, omega (arith, (goes-5 c).room.sheet-room, c.gather-count.auto.0))
+    (fewer_left-3 c, omega (arith, (goes-5 c).room.sheet-room, c.gather-count.auto.sheet))

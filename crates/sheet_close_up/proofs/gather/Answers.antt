@@ -13,6 +13,7 @@ use Rattle.sheet_definition.specs.Sheet.{record_bytes}
 use Rattle.sheet_definition.specs.Struck.{all_zero}
 use Rattle.sheet_close_up.proofs.Moved.{part_size, none_gathered, few, sheet-size, places-size, next-record, passed, moved}
 use Rattle.sheet_close_up.proofs.gather.Goals as goal
+use Rattle.sheet_close_up.proofs.gather.Goals.{then-not-zeros, else-not-zeros}
 
 pub loop-i-init : goal.loop-i-init
 loop-i-init c =
@@ -79,9 +80,9 @@ loop-i-preserved c =
       v.3,
       rw (add-one l.i)
           (elim c.if-not-zeros.branch [
-            | inl s ↦ rw (s.5 ∙ s.2.ensures ∙ ap (λ (x : List ℕ). overwrite_at (record_bytes * l.count) x l.sheet) (next-record _ _ l.i _ _ _ r p v.4), s.6, s.7, add-one l.count)
-                (moved _ _ _ _ _ _ r p v.4 (sym (asked c) ∙ not-true c.zeros.result s.0.taken) (omega (arith, v.3)))
-            | inr s ↦ rw (s.1, s.2, s.3) (passed _ _ _ _ _ _ r p v.4 (sym (asked c) ∙ not-false c.zeros.result s.0.left))
+            | then-not-zeros s ↦ rw (s.sheet-is ∙ s.move_record.ensures ∙ ap (λ (x : List ℕ). overwrite_at (record_bytes * l.count) x l.sheet) (next-record _ _ l.i _ _ _ r p v.4), s.places-is, s.count-is, add-one l.count)
+                (moved _ _ _ _ _ _ r p v.4 (sym (asked c) ∙ s.if-not-zeros.true) (omega (arith, v.3)))
+            | else-not-zeros s ↦ rw (s.sheet-is, s.places-is, s.count-is) (passed _ _ _ _ _ _ r p v.4 (sym (asked c) ∙ s.if-not-zeros.false))
           ]),
     )
 
@@ -115,3 +116,11 @@ shape_of-sheet c =
 pub shape_of-places : goal.shape_of-places
 shape_of-places c =
     (known-4 c).2
+
+pub bounds-places-count : goal.bounds-places-count
+bounds-places-count c =
+    omega (arith, known-3 c)
+
+pub overflow_add-count : goal.overflow_add-count
+overflow_add-count c =
+    omega (arith, known-3 c)
