@@ -40,7 +40,7 @@ below c =
     let a = c.args in
     let there = length-slice 0 a.count a.links (omega (arith, four c, c.requires.0)) in
     let named = c.requires.1 _ (at_index (slice 0 a.count a.links) l.k no_link (omega arith)) in
-    rw (c.at-p.ensures, l.inv.1, ← get_or-take a.count a.links l.k no_link (omega arith)) named
+    rw (c.at-p.ensures, l.invariant.1, ← get_or-take a.count a.links l.k no_link (omega arith)) named
 
 -- it leads to a place of the list
 below-2 : (c : goal.After-at-p) → c.at-p.result < length c.loop-k.intake
@@ -50,7 +50,7 @@ below-2 c =
     let a = c.args in
     let there = length-slice 0 a.count a.links (omega (arith, four-2 c, c.requires.0)) in
     let named = c.requires.1 _ (at_index (slice 0 a.count a.links) l.k no_link (omega arith)) in
-    rw (c.at-p.ensures, l.inv.1, ← get_or-take a.count a.links l.k no_link (omega arith)) named
+    rw (c.at-p.ensures, l.invariant.1, ← get_or-take a.count a.links l.k no_link (omega arith)) named
 
 -- it leads to a place of the list
 below-3 : (c : goal.After-slice_known-in-loop-k-1-unread) → c.at-p.result < length c.loop-k.intake
@@ -60,7 +60,7 @@ below-3 c =
     let a = c.args in
     let there = length-slice 0 a.count a.links (omega (arith, four-3 c, c.requires.0)) in
     let named = c.requires.1 _ (at_index (slice 0 a.count a.links) l.k no_link (omega arith)) in
-    rw (c.at-p.ensures, l.inv.1, ← get_or-take a.count a.links l.k no_link (omega arith)) named
+    rw (c.at-p.ensures, l.invariant.1, ← get_or-take a.count a.links l.k no_link (omega arith)) named
 
 -- what is there, what the link brings and what the links after it bring are the whole
 step : (c : goal.After-struct_known-1) (q : ℕ) →
@@ -73,21 +73,21 @@ step c q =
     let l = c.loop-k in
     let a = c.args in
     let left = brought_left a.places.now a.rate l.k a.count a.links q (omega arith) (omega (arith, four c, c.requires.0)) in
-    rw (c.at-p.ensures, ← left) (l.inv.2 q)
+    rw (c.at-p.ensures, ← left) (l.invariant.2 q)
 
 -- so no sum passes 64 bits
 fits : (c : goal.After-struct_known-1) → get_or c.loop-k.intake c.at-p.result 0 + kilograms c < 2 ^ 64
 unfolding Takes pick
 fits c =
     let p = c.at-p.result in
-    let whole = c.requires.2 p (rw (← c.loop-k.inv.1) (below c)) in
+    let whole = c.requires.2 p (rw (← c.loop-k.invariant.1) (below c)) in
     omega (arith, whole, rw (eq-eqb p p refl) at (step c p))
 
 pub loop-k-preserved : goal.loop-k-preserved
 loop-k-preserved c =
     let l = c.loop-k in (
       omega arith,
-      length-set l.intake c.at-p.result _ ∙ l.inv.1,
+      length-set l.intake c.at-p.result _ ∙ l.invariant.1,
       λ q. rw (add-one l.k) (omega (arith, step c q, put_more l.intake c.at-p.result (kilograms c) q (below c))),
     )
 
@@ -122,3 +122,7 @@ bounds-intake-p-in-loop-k c =
 pub shape_of-intake : goal.shape_of-intake
 shape_of-intake c =
     c.loop-k.invariant.1
+
+pub overflow_add-intake : goal.overflow_add-intake
+overflow_add-intake c =
+    omega (arith, fits c)

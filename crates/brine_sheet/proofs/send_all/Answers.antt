@@ -1,7 +1,6 @@
 -- `brine_sheet::send_all` meets its contract. The loop's invariant: what is there and what the wells left send are the whole.
 -- Assumes nothing.
 use mathlib.Core.Path.{◌≡◌, refl, ◌∙◌}
-use mathlib.Core.Logic.◌⊎◌.{inl, inr}
 use mathlib.Core.List.{◌∷◌}
 use Prim.Native.Nat.{ℕ, suc, ◌+◌, ◌-◌, ◌≤◌}
 use native.Mathlib.Numerals.{add-one}
@@ -15,6 +14,7 @@ use Rattle.plan_record.proofs.Total.{well_read}
 use Rattle.brine_sheet.specs.Sent.{Named, AllNamed, brought_to, sent_to, Added, Takes}
 use Rattle.brine_sheet.proofs.Sends.{sent_producer, sent_other}
 use Rattle.brine_sheet.proofs.send_all.Goals as goal
+use Rattle.brine_sheet.proofs.send_all.Goals.{then-w-eq-PRODUCER, else-w-eq-PRODUCER}
 
 pub loop-i-init : goal.loop-i-init
 loop-i-init c =
@@ -85,12 +85,12 @@ loop-i-preserved c =
     let ws = left (suc l.i) a.n a.sheet.now in (
       omega arith,
       elim c.if-w-eq-PRODUCER.branch [
-        | inl s ↦ rw s.8 (s.5.kept.1.1.1.1.0 ∙ l.invariant.1)
-        | inr s ↦ rw s.1 l.invariant.1
+        | then-w-eq-PRODUCER s ↦ rw s.intake-is (s.send.auto.intake ∙ l.invariant.1)
+        | else-w-eq-PRODUCER s ↦ rw s.intake-is l.invariant.1
       ],
       λ q. rw (add-one l.i) (elim c.if-w-eq-PRODUCER.branch [
-        | inl s ↦ rw s.8 (omega (arith, step c q, s.5.ensures q, sent_producer a.places.now w ws q (omega (arith, s.0.taken))))
-        | inr s ↦ rw s.1 (omega (arith, step c q, sent_other a.places.now w ws q (λ e. omega (arith, s.0.left))))
+        | then-w-eq-PRODUCER s ↦ rw s.intake-is (omega (arith, step c q, s.send.ensures q, sent_producer a.places.now w ws q (omega (arith, s.if-w-eq-PRODUCER.true))))
+        | else-w-eq-PRODUCER s ↦ rw s.intake-is (omega (arith, step c q, sent_other a.places.now w ws q (λ e. omega (arith, s.if-w-eq-PRODUCER.false))))
       ]),
     )
 

@@ -130,7 +130,7 @@ spare_is c =
     let sheet = c.args.sheet.now in
     let i = c.loop-i.i in
     let read : c.read-w.result ≡ well_at i sheet = c.read-w.ensures ∙ well_read sheet i (omega arith) in
-    to_z-of_z (record { sfits = c.spare_of-s.type-inv })
+    to_z-of_z {w = w64} (record { sfits = c.spare_of-s.type_inv })
     ∙ (rw read at c.spare_of-s.ensures)
     ∙ spare_in (wells c.args.n sheet) c.requires.2 (well_at i sheet) _ (intake_is c).1
 

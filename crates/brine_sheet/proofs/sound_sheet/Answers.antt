@@ -61,12 +61,12 @@ send_all-requires c =
 sent : (c : goal.After-settle-arg-1) → let a = c.args in
     c.send_all.new.intake ≡ intakes (rows (wells a.n a.sheet.now))
 sent c =
-    sent_intakes (given-2 c) _ (c.send_all.auto.1.1.1.0 ∙ zeros-2 c) (rw (c.put.ensures.0, c.requires.3) at c.send_all.ensures)
+    sent_intakes (given-2 c) _ (c.send_all.auto.intake ∙ zeros-2 c) (rw (c.put.ensures.0, c.requires.3) at c.send_all.ensures)
 
 sent-2 : (c : goal.After-spare-1) → let a = c.args in
     c.send_all.new.intake ≡ intakes (rows (wells a.n a.sheet.now))
 sent-2 c =
-    sent_intakes (given-3 c) _ (c.send_all.auto.1.1.1.0 ∙ zeros-3 c) (rw (c.put.ensures.0, c.requires.3) at c.send_all.ensures)
+    sent_intakes (given-3 c) _ (c.send_all.auto.intake ∙ zeros-3 c) (rw (c.put.ensures.0, c.requires.3) at c.send_all.ensures)
 
 pub settle-requires : goal.settle-requires
 settle-requires c =

@@ -51,7 +51,7 @@ from_injectors-requires c =
 
 -- so many hops from the well
 level : (c : goal.After-slice_known-3-1) → let a = c.args in
-    Level (wells a.n a.sheet.now) (well_at a.place a.sheet.now) a.hops c.if-w-eq-PRODUCER.reached (has c.if-w-eq-PRODUCER.taken)
+    Level (wells a.n a.sheet.now) (well_at a.place a.sheet.now) a.hops c.if-w-eq-PRODUCER.reached (has c.if-w-eq-PRODUCER.true)
 level c =
     let a = c.args in
     let kind = ap (λ (w : Well). w.kind) (the_well c) in

@@ -44,7 +44,7 @@ loop-i-preserved c =
     let ws = left (suc l.i) a.n a.sheet.now in (
       omega arith,
       λ k. rw (add-one l.i) (elim c.if-reached-i-eq1.branch [
-        | inl t ↦ with_linked a.reached.now k (well_at l.i a.sheet.now) ws (has l.taken) (has c.if-reached-i-eq1.taken) t.1.result
+        | inl t ↦ with_linked a.reached.now k (well_at l.i a.sheet.now) ws (has l.taken) (has c.if-reached-i-eq1.true) t.1.result
             (read_at c.requires.0 {i = l.i} (omega arith) t.1.ensures) t.0.taken (rw t.6 t.5.ensures) ∙ step c k
         | inr t ↦ rw t.1 (with_unmarked a.reached.now k (well_at l.i a.sheet.now) ws (has l.taken) t.0.left ∙ step c k)
       ]),
