@@ -1,7 +1,6 @@
 -- `reach::mark` meets its contract. The loop's invariant: the bytes of the places passed are marked by what touches their wells.
 -- Assumes nothing.
 use mathlib.Core.Path.{◌≡◌, refl, sym, ap, ◌∙◌}
-use mathlib.Core.Logic.◌⊎◌.{inl, inr}
 use mathlib.Core.Bool.{true, false}
 use Prim.Native.Nat.{◌-◌}
 use native.Mathlib.Numerals.{add-one}
@@ -15,6 +14,7 @@ use Rattle.reach.proofs.Wells.{few-links, read_at, read-among, at_each}
 use Rattle.reach.proofs.Steps.{next-byte}
 use Rattle.reach.proofs.mark.Invariants.{test}
 use Rattle.reach.proofs.mark.Goals as goal
+use Rattle.reach.proofs.mark.Goals.{then-touched, else-touched}
 
 pub loop-i-init : goal.loop-i-init
 loop-i-init c = (omega arith, refl, record { below = λ q l. absurd (omega arith); from = λ q l. refl })
@@ -42,8 +42,8 @@ loop-i-preserved c =
     let next = next-byte f l.i a.reached.now l.reached c.if-touched.reached (omega (arith, l.invariant.1, c.requires.1)) l.invariant.2 in
     let t = told c in
     elim c.if-touched.branch [
-      | inl s ↦ (omega arith, rw s.1 (length-set l.reached l.i 1 ∙ l.invariant.1), rw (add-one l.i) (next true (t ∙ s.0.taken) s.1))
-      | inr s ↦ (omega arith, rw s.1 l.invariant.1, rw (add-one l.i) (next false (t ∙ s.0.left) s.1))
+      | then-touched s ↦ (omega arith, rw s.reached-is (length-set l.reached l.i 1 ∙ l.invariant.1), rw (add-one l.i) (next true (t ∙ s.if-touched.true) s.reached-is))
+      | else-touched s ↦ (omega arith, rw s.reached-is l.invariant.1, rw (add-one l.i) (next false (t ∙ s.if-touched.false) s.reached-is))
     ]
 
 pub returns : goal.returns

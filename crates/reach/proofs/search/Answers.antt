@@ -16,21 +16,22 @@ use Rattle.reach.specs.Level.{Level}
 use Rattle.reach.proofs.Wells.{either_kind, reads, at_among, read_at}
 use Rattle.reach.proofs.Ends.{producer-search, injector-search, all_marks}
 use Rattle.reach.proofs.search.Goals as goal
+use Rattle.reach.proofs.search.Goals.{then-w-eq-PRODUCER, else-w-eq-PRODUCER}
 
 zeros : (c : goal.After-slice_known-3-1) → c.clear.new.reached ≡ replicate c.args.n 0
 zeros c = rw c.requires.2 at c.clear.ensures
 
 long : (c : goal.After-taken-1) → length c.clear.new.reached ≡ c.args.n
-long c = c.clear.auto.0 ∙ c.requires.2
+long c = c.clear.auto.reached ∙ c.requires.2
 
 long-2 : (c : goal.After-taken-else-w-eq-PRODUCER-2-1) → length c.clear.new.reached ≡ c.args.n
-long-2 c = c.clear.auto.0 ∙ c.requires.2
+long-2 c = c.clear.auto.reached ∙ c.requires.2
 
 long-3 : (c : goal.After-mark-arg-1) → length c.clear.new.reached ≡ c.args.n
-long-3 c = c.clear.auto.0 ∙ c.requires.2
+long-3 c = c.clear.auto.reached ∙ c.requires.2
 
 long-4 : (c : goal.After-slice_known-3-1) → length c.clear.new.reached ≡ c.args.n
-long-4 c = c.clear.auto.0 ∙ c.requires.2
+long-4 c = c.clear.auto.reached ∙ c.requires.2
 
 -- the well that was read
 the_well : (c : goal.After-slice_known-3-1) → let a = c.args in
@@ -51,16 +52,16 @@ from_injectors-requires c =
 
 -- so many hops from the well
 level : (c : goal.After-slice_known-3-1) → let a = c.args in
-    Level (wells a.n a.sheet.now) (well_at a.place a.sheet.now) a.hops c.if-w-eq-PRODUCER.reached (has c.if-w-eq-PRODUCER.true)
+    Level (wells a.n a.sheet.now) (well_at a.place a.sheet.now) a.hops c.if-w-eq-PRODUCER.reached (has c.if-w-eq-PRODUCER.taken)
 level c =
     let a = c.args in
     let kind = ap (λ (w : Well). w.kind) (the_well c) in
     elim c.if-w-eq-PRODUCER.branch [
-      | inl t ↦ rw (t.6, t.7)
-          (producer-search c.requires.0 a.place c.requires.1 (sym kind ∙ t.0.taken) c.clear.last.0 (zeros c) a.hops _ _ t.3.ensures)
-      | inr t ↦ rw (t.8, t.9)
-          (injector-search c.requires.0 a.place c.requires.1 (other (either_kind c.requires.0.sound (at_among c.requires.0 c.requires.1) (stands c)) (λ e. t.0.left (kind ∙ e)))
-          c.clear.last.0 (zeros c) _ (rw (the_well c) at t.2.ensures) a.hops _ _ t.5.ensures)
+      | then-w-eq-PRODUCER t ↦ rw (t.reached-is, t.taken-is)
+          (producer-search c.requires.0 a.place c.requires.1 (sym kind ∙ t.if-w-eq-PRODUCER.true) c.clear.new.reached (zeros c) a.hops _ _ t.from_producers.ensures)
+      | else-w-eq-PRODUCER t ↦ rw (t.reached-is, t.taken-is)
+          (injector-search c.requires.0 a.place c.requires.1 (other (either_kind c.requires.0.sound (at_among c.requires.0 c.requires.1) (stands c)) (λ e. t.if-w-eq-PRODUCER.false (kind ∙ e)))
+          c.clear.new.reached (zeros c) _ (rw (the_well c) at t.put.ensures) a.hops _ _ t.from_injectors.ensures)
     ]
   where
     other : {k : ℕ} → (k ≡ 1) ⊎ (k ≡ 2) → (k ≡ 1 → ⊥) → k ≡ 2
@@ -71,16 +72,16 @@ level c =
 joined-long : (c : goal.After-mark-arg-1) → length c.if-w-eq-PRODUCER.reached ≡ c.args.n
 joined-long c =
     elim c.if-w-eq-PRODUCER.branch [
-      | inl t ↦ rw t.6 ((simp length-set at t.3.kept.1.1.1.0) ∙ long-3 c)
-      | inr t ↦ rw t.8 (t.5.kept.1.1.1.0 ∙ long-3 c)
+      | then-w-eq-PRODUCER t ↦ rw t.reached-is ((simp length-set at t.from_producers.auto.reached) ∙ long-3 c)
+      | else-w-eq-PRODUCER t ↦ rw t.reached-is (t.from_injectors.auto.reached ∙ long-3 c)
     ]
 
 -- the buffer is as long as it was
 joined-long-2 : (c : goal.After-slice_known-3-1) → length c.if-w-eq-PRODUCER.reached ≡ c.args.n
 joined-long-2 c =
     elim c.if-w-eq-PRODUCER.branch [
-      | inl t ↦ rw t.6 ((simp length-set at t.3.kept.1.1.1.0) ∙ long-4 c)
-      | inr t ↦ rw t.8 (t.5.kept.1.1.1.0 ∙ long-4 c)
+      | then-w-eq-PRODUCER t ↦ rw t.reached-is ((simp length-set at t.from_producers.auto.reached) ∙ long-4 c)
+      | else-w-eq-PRODUCER t ↦ rw t.reached-is (t.from_injectors.auto.reached ∙ long-4 c)
     ]
 
 pub mark-requires : goal.mark-requires
@@ -88,7 +89,7 @@ mark-requires c =
     (c.requires.0, omega (arith, joined-long c))
 
 marked_long : (c : goal.After-slice_known-3-1) → length c.mark.new.reached ≡ c.args.n
-marked_long c = c.mark.auto.1.1.1.1.0 ∙ joined-long-2 c
+marked_long c = c.mark.auto.reached ∙ joined-long-2 c
 
 pub returns : goal.returns
 returns c =

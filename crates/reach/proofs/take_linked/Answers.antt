@@ -1,7 +1,6 @@
 -- `reach::take_linked` meets its contract. The loop's invariant: what the wells left link and what is in the set are all.
 -- Assumes nothing.
 use mathlib.Core.Path.{◌≡◌, ◌∙◌, fun_ext}
-use mathlib.Core.Logic.◌⊎◌.{inl, inr}
 use mathlib.Core.Bool.{◌||◌}
 use mathlib.Core.List.{◌∷◌}
 use Prim.Native.Nat.{ℕ, suc, ◌-◌}
@@ -16,6 +15,7 @@ use Rattle.reach.specs.Sets.{linked_from, plus_linked}
 use Rattle.reach.proofs.Wells.{few-links, read_at, read-among}
 use Rattle.reach.proofs.Steps.{with_linked, with_unmarked}
 use Rattle.reach.proofs.take_linked.Goals as goal
+use Rattle.reach.proofs.take_linked.Goals.{then-reached-i-eq1, else-reached-i-eq1}
 
 pub loop-i-init : goal.loop-i-init
 loop-i-init c = let a = c.args in (omega arith, λ k. rw (left_all a.n a.sheet.now))
@@ -44,9 +44,9 @@ loop-i-preserved c =
     let ws = left (suc l.i) a.n a.sheet.now in (
       omega arith,
       λ k. rw (add-one l.i) (elim c.if-reached-i-eq1.branch [
-        | inl t ↦ with_linked a.reached.now k (well_at l.i a.sheet.now) ws (has l.taken) (has c.if-reached-i-eq1.true) t.1.result
-            (read_at c.requires.0 {i = l.i} (omega arith) t.1.ensures) t.0.taken (rw t.6 t.5.ensures) ∙ step c k
-        | inr t ↦ rw t.1 (with_unmarked a.reached.now k (well_at l.i a.sheet.now) ws (has l.taken) t.0.left ∙ step c k)
+        | then-reached-i-eq1 t ↦ with_linked a.reached.now k (well_at l.i a.sheet.now) ws (has l.taken) (has c.if-reached-i-eq1.taken) t.read-w.result
+            (read_at c.requires.0 {i = l.i} (omega arith) t.read-w.ensures) t.if-reached-i-eq1.true (rw t.taken-is t.take.ensures) ∙ step c k
+        | else-reached-i-eq1 t ↦ rw t.taken-is (with_unmarked a.reached.now k (well_at l.i a.sheet.now) ws (has l.taken) t.if-reached-i-eq1.false ∙ step c k)
       ]),
     )
 
