@@ -94,7 +94,7 @@ added : (c : goal.After-struct_known-in-loop-k-3-1) →
     (take l.at l.intake ++ c.statement-one.new.intake) (take l.at l.spare ++ c.statement-one.new.spare)
 added c =
     let l = c.loop-k in
-    one_more c.requires l.inv c.loop-k-test.true _
+    one_more c.requires l.invariant c.loop-k-test.true _
     (rw (to_the_end (40 * l.at) c.args.sheets.now, to_the_end l.at l.intake, to_the_end l.at l.spare) at c.statement-one.ensures.0)
 
 -- the invariant with that sheet
@@ -105,7 +105,7 @@ added-2 : (c : goal.After-struct_known-1) →
     (take l.at l.intake ++ c.statement-one.new.intake) (take l.at l.spare ++ c.statement-one.new.spare)
 added-2 c =
     let l = c.loop-k in
-    one_more c.requires l.inv c.loop-k-test.true _
+    one_more c.requires l.invariant c.loop-k-test.true _
     (rw (to_the_end (40 * l.at) c.args.sheets.now, to_the_end l.at l.intake, to_the_end l.at l.spare) at c.statement-one.ensures.0)
 
 -- the invariant with that sheet
@@ -116,7 +116,7 @@ added-3 : (c : goal.After-struct_known-in-loop-k-1) →
     (take l.at l.intake ++ c.statement-one.new.intake) (take l.at l.spare ++ c.statement-one.new.spare)
 added-3 c =
     let l = c.loop-k in
-    one_more c.requires l.inv c.loop-k-test.true _
+    one_more c.requires l.invariant c.loop-k-test.true _
     (rw (to_the_end (40 * l.at) c.args.sheets.now, to_the_end l.at l.intake, to_the_end l.at l.spare) at c.statement-one.ensures.0)
 
 -- the invariant with that sheet
@@ -127,7 +127,7 @@ added-4 : (c : goal.After-struct_known-in-loop-k-2-1) →
     (take l.at l.intake ++ c.statement-one.new.intake) (take l.at l.spare ++ c.statement-one.new.spare)
 added-4 c =
     let l = c.loop-k in
-    one_more c.requires l.inv c.loop-k-test.true _
+    one_more c.requires l.invariant c.loop-k-test.true _
     (rw (to_the_end (40 * l.at) c.args.sheets.now, to_the_end l.at l.intake, to_the_end l.at l.spare) at c.statement-one.ensures.0)
 
 -- no total passes the batch's, which fit
@@ -176,12 +176,36 @@ pub overflow_mul-from : goal.overflow_mul-from
 overflow_mul-from c =
     omega (arith, next-2 c)
 
+pub slice_bounds-statement-count : goal.slice_bounds-statement-count
+slice_bounds-statement-count c =
+    omega (arith, next-2 c)
+
+pub slice_bounds-statement-start : goal.slice_bounds-statement-start
+slice_bounds-statement-start c =
+    omega (arith, next-2 c)
+
 pub offset_bounds-intake-at : goal.offset_bounds-intake-at
 offset_bounds-intake-at c =
     omega (arith, next-3 c)
 
+pub slice_bounds-statement-count-in-loop-k : goal.slice_bounds-statement-count-in-loop-k
+slice_bounds-statement-count-in-loop-k c =
+    omega (arith, next-3 c)
+
+pub slice_bounds-statement-start-in-loop-k : goal.slice_bounds-statement-start-in-loop-k
+slice_bounds-statement-start-in-loop-k c =
+    omega (arith, next-3 c)
+
 pub offset_bounds-spare-at : goal.offset_bounds-spare-at
 offset_bounds-spare-at c =
+    omega (arith, next-4 c)
+
+pub slice_bounds-statement-count-in-loop-k-2 : goal.slice_bounds-statement-count-in-loop-k-2
+slice_bounds-statement-count-in-loop-k-2 c =
+    omega (arith, next-4 c)
+
+pub slice_bounds-statement-start-in-loop-k-2 : goal.slice_bounds-statement-start-in-loop-k-2
+slice_bounds-statement-start-in-loop-k-2 c =
     omega (arith, next-4 c)
 
 pub overflow_add-sound : goal.overflow_add-sound

@@ -61,10 +61,10 @@ unfolding bytes_at
 asked-3 c = ap (λ (n : ℕ). 4 * n) c.words-n.ensures
 
 size : (c : goal.After-digest-3-1) → length c.finished_answer.new.out ≡ 64
-size c = c.finished_answer.auto.1.0
+size c = c.finished_answer.auto.out
 
 size-2 : (c : goal.After-put_line-arg-1) → length c.finished_answer.new.out ≡ 64
-size-2 c = c.finished_answer.auto.1.0
+size-2 c = c.finished_answer.auto.out
 
 within : (c : goal.After-digest-3-1) → 4 * c.words-n.result ≤ length c.finished_answer.new.out
 within c = omega (arith, size c, asked c, small c.args.code)
