@@ -133,8 +133,9 @@ pub extern "C" fn luffa_hash_feed_bits(hash: &mut Kept, piece: &[u8], odd: usize
     let v = *hash;
     let s = hash_pieces::short_answer(v, piece, odd);
     if s.stays {
+        let pending = s.held.pending;
         hash.odd = s.held.odd;
-        hash.pending = s.held.pending;
+        hash.pending = pending;
         hash.high = s.held.high;
         hash.low = s.held.low;
         return s.number;
