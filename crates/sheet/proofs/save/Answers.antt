@@ -44,21 +44,21 @@ returns-then-begun-ne-DONE c =
     let d = c.admit-begun.ensures in
     rw d.marks_unchanged (turned_away_lem (lent c) (asked c) refl refl d.value c.if-begun-ne-DONE.true)
 
-goes : (c : goal.After-work_on-arg-2-1) → 
+goes : (c : goal.After-work_on-arg-2-1) →
     (c.args.number ≡ 0)
     × ((c.admit-begun.result.rounds ≡ (checked (lent-2 c)).rounds) × (accepted (lent-2 c) (asked-2 c) ≡ save_outcome (lent-2 c) (asked-2 c)))
 unfolding first_of pick
 goes c =
     goes_on (lent-2 c) (asked-2 c) refl refl c.admit-begun.ensures.value c.if-begun-ne-DONE.false
 
-goes-2 : (c : goal.After-slice_known-8-1) → 
+goes-2 : (c : goal.After-slice_known-8-1) →
     (c.args.number ≡ 0)
     × ((c.admit-begun.result.rounds ≡ (checked (lent-3 c)).rounds) × (accepted (lent-3 c) (asked-3 c) ≡ save_outcome (lent-3 c) (asked-3 c)))
 unfolding first_of pick
 goes-2 c =
     goes_on (lent-3 c) (asked-3 c) refl refl c.admit-begun.ensures.value c.if-begun-ne-DONE.false
 
-goes-3 : (c : goal.After-put_bytes-arg-1) → 
+goes-3 : (c : goal.After-put_bytes-arg-1) →
     (c.args.number ≡ 0)
     × ((c.admit-begun.result.rounds ≡ (checked (lent-4 c)).rounds) × (accepted (lent-4 c) (asked-4 c) ≡ save_outcome (lent-4 c) (asked-4 c)))
 unfolding first_of pick

@@ -9,9 +9,9 @@ use Rattle.sheet_work.proofs.admit.Goals as goal
 pub returns-then-number-ne-DONE : goal.returns-then-number-ne-DONE
 unfolding admission
 returns-then-number-ne-DONE c = record {
-      value = sym (not_done _ _ _ c.if-number-ne-DONE.true);
-      marks_unchanged = refl;
-    }
+  value = sym (not_done _ _ _ c.if-number-ne-DONE.true);
+  marks_unchanged = refl;
+}
 
 pub check-c-requires : goal.check-c-requires
 check-c-requires c = c.requires c.if-number-ne-DONE.false
