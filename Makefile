@@ -29,25 +29,26 @@ PLAN ?= target/bin/plan
 .DELETE_ON_ERROR:
 all: $(LUFFA_ARCHIVE) $(LUFFA_LIB)/libluffa.so $(LUFFASUM) $(PLAN) $(if $(LIBPQ),$(PLAN)-postgresql)
 
-# rt knows by itself what has to be proved again; the sources say when to ask it. rt check proves
-# crates that don't need each other side by side and builds the program too; rt staticlib would take
-# them one after the other, and here finds them proved. Each static library is one object: the calls on
-# columns join the archive as a second one, which is linked only where they are called. The first one
-# alone is all that the workstation needs, and is proved before the rest.
-SOURCES := crates.txt $(shell find crates -name '*.rt')
+# rt knows by itself what has to be proved again; the sources say when to ask it. In a crate's folder `rt all check` proves the crate and those
+# that it stands on, crates that don't need each other side by side; `rt lib` would take them one after the other, and here finds them proved. A
+# proof takes up to 3 GB. Each static library is one object: the calls on columns join the archive as a second one, which is linked only where
+# they are called. The first one alone is all that the workstation needs, and is proved before the rest.
+SOURCES := crates.txt $(shell find crates -path '*/src/*.rt')
+PROVE := rt all check --jobs $(shell awk -v cores=$$(nproc) '/^MemAvailable/ { n = int($$2 / 3000000) } \
+    END { print n < 1 ? 1 : n < cores ? n : cores }' /proc/meminfo)
 FIRST := target/staticlib/first/libluffa.a
 $(FIRST): $(SOURCES)
-	rt check luffa
-	rt staticlib luffa
-	mkdir -p $(@D) && mv target/staticlib/libluffa.a $@
+	cd crates/luffa_c && $(PROVE) && rt lib
+	mkdir -p $(@D) && cp crates/luffa_c/out/libluffa_c.a $@
 target/staticlib/libluffa.a: $(FIRST)
-	rt check luffa_columns luffasum
-	rt staticlib luffa_columns
+	cd crates/luffa_columns_c && $(PROVE) && rt lib
 	cp $(FIRST) $@
-	cd $(@D) && $(AR) x libluffa_columns.a && $(AR) rs $(@F) luffa_columns.o && rm luffa_columns.o
+	cd crates/luffa_columns_c/out && $(AR) x libluffa_columns_c.a
+	$(AR) rs $@ crates/luffa_columns_c/out/luffa_columns_c.o
+	rm crates/luffa_columns_c/out/luffa_columns_c.o
 target/bin/luffasum: $(SOURCES)
-	rt check luffasum
-	touch -c $@
+	cd crates/luffasum && $(PROVE) && rt run <stdin >/dev/null
+	mkdir -p $(@D) && cp crates/luffasum/out/luffasum $@
 
 $(PLAN) $(PLAN)-postgresql: $(FIRST) include/luffa.h $(wildcard workstation/*.[ch])
 	mkdir -p $(@D)

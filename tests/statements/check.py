@@ -14,21 +14,27 @@ from source import spaced
 # Edits that may alter a file of proofs/, each with the reason; the others alter src/ and specs/ alone, so that what is refused is the program.
 EDITS_OF_PROOFS = {}
 
-# Where the symbols of contracts and definitions come from; from elsewhere they would mean something else.
+# Where the symbols of contracts, definitions and laws come from; from elsewhere they would mean something else.
 HOME = {
-    "mathlib.Core.Path": "_≡_",
-    "mathlib.Core.Bool": "Bool true false not _&&_ _||_",
-    "mathlib.Core.List": "List [] _∷_ _++_ map",
-    "Prim.Native.Nat": "ℕ zero suc min _<_ _≤_ _+_ _-_ _*_ _/_ _%_ _^_",
-    "Prim": "_×_ ⊥ ¬_",
-    "lib.ListN": "length take drop getD set replicate",
+    "mathlib.Core.Path": "◌≡◌",
+    "mathlib.Core.Bool": "Bool true false not ◌&&◌ ◌||◌",
+    "mathlib.Core.List": "List [] ◌∷◌ ◌++◌ map reverse",
+    "mathlib.Core.Logic": "◌≢◌ ◌⊎◌ ◌↔◌",
+    "Prim.Native.Nat": "ℕ zero suc min ◌<◌ ◌≤◌ ◌+◌ ◌-◌ ◌*◌ ◌/◌ ◌%◌ ◌^◌",
+    "Prim": "◌×◌ ⊥ ¬◌",
+    "lib.ListN": "length take drop get_or set replicate",
+    "lib.Seq": "slice",
     "lib.Dec": "leb ltb eqb",
-    "lib.Bits": "bitXor bitOr bitAnd",
-    "denote.Ref": "now",
+    "lib.Bits": "bit_xor bit_or bit_and",
+    "Rattle.core.specs.Bool": "nat_eq nat_lt nat_le ◌==◌",
 }
 HOME_OF = {name: module for module, names in HOME.items() for name in names.split()}
-LIBRARIES = {module.split(".")[0] for module in HOME}
+# The modules of the library that pass these on, and declare none of them.
+PASSED_ON = {"Rattle.std.specs.Prelude", "Rattle.std.specs.Int.Bits", "Rattle.std.proofs.Common", "Rattle.std.proofs.Math.Seq"}
+LIBRARIES = {module.split(".")[0] for module in {*HOME, *PASSED_ON}}
 CONSTRUCTORS = {"zero", "suc", "true", "false", "[]"}  # they stand on the left of equations
+# What a clause calls the function's result, and the fields of a reference: what it points to, at the beginning and at the end.
+RESULT, LENT = "result", {"now", "old", "new"}
 
 CALLS = "Each call"
 WRONG = "Wrong programs that are refused"
@@ -94,7 +100,8 @@ class Checker:
         self.proofs = sorted((root / "crates").glob("*/proofs/**/*.antt"))
         self.edits = sorted((root / "crates").glob("*/must-fail/*.edit"))
         self.texts = {file: source.read(file) for file in [*self.sources, *self.definitions, *self.proofs]}
-        self.functions = {f.path: f for file in self.sources for f in source.functions_in(self.texts[file], file)}
+        self.all = [f for file in self.sources for f in source.functions_in(self.texts[file], file)]
+        self.functions = {f.path: f for f in self.all}
         self.names, self.named_edits = 0, set()
 
     def say(self, complaint):
@@ -108,7 +115,7 @@ class Checker:
         return self.shown(file).split("/")[1]
 
     def public(self):
-        return [f for f in self.functions.values() if f.public]
+        return [f for f in self.all if f.public]
 
     def run(self):
         self.theorems()
@@ -120,6 +127,7 @@ class Checker:
         self.contracts()
         self.asking()
         self.symbols()
+        self.lent_fields()
         self.nothing_assumed()
         return self.complaints
 
@@ -221,38 +229,42 @@ class Checker:
     # Contracts
 
     def contracts(self):
-        for f in self.functions.values():
+        for f in self.all:
             at = f"{self.shown(f.file)}: {f.path}"
             if f.public and not f.ensures and not f.path.endswith("::main"):
                 self.say(f"{at} is public and has no ensures")
             for clause in f.ensures:
                 self.hold_clause(at, clause)
             for clause in f.ensures + f.requires:
-                for name in HOME_OF.keys() & source.bound_in(clause, is_clause=True).keys():
+                bound = source.bound_in(clause, is_clause=True).keys()
+                for name in HOME_OF.keys() & bound:
                     self.say(f"{at} binds {name} in its contract, which hides {HOME_OF[name]}.{name}")
+                if RESULT in bound:
+                    self.say(f"{at} binds {RESULT} in its contract, which hides what the function answers")
             if f.public and f.ensures:
                 self.hold_determined(at, f)
             for name, _ in f.parameters:
                 if name in HOME_OF:
                     self.say(f"{at} has a parameter {name}, which hides {HOME_OF[name]}.{name} in its contract")
+                if name == RESULT:
+                    self.say(f"{at} has a parameter {RESULT}, which hides what the function answers")
 
     def hold_clause(self, at, clause):
         for left, right in source.equations(clause):
             if left == right:
                 self.say(f"{at} ensures {left} ≡ {right}, which says nothing")
-        binder = source.result_binder(clause)
-        if not (binder and source.mentions(clause, binder)) and not re.search(r"\.exit\b", clause):
+        if not source.mentions(clause, RESULT) and not re.search(r"\.new\b", clause):
             self.say(f"{at} ensures nothing of its result or of what it was lent: {spaced(clause)}")
 
     def hold_determined(self, at, f):
         """A public contract has an equation, and speaks of the result and of each thing that is lent for writing."""
         if not any("≡" in clause for clause in f.ensures):
             self.say(f"{at} ensures no equation")
-        if f.answers and not any((b := source.result_binder(c)) and source.mentions(c, b) for c in f.ensures):
+        if f.answers and not any(source.mentions(clause, RESULT) for clause in f.ensures):
             self.say(f"{at} ensures nothing of its result")
         for name, kind in f.parameters:
             if kind.startswith("&") and re.match(r"&('\w+ )?mut\b", kind):
-                if not any(re.search(rf"(?<!\w)[«]?{name}[»]? \.exit\b", spaced(c)) for c in f.ensures):
+                if not any(source.speaks_of(clause, name) for clause in f.ensures):
                     self.say(f"{at} ensures nothing of {name}, which is lent for writing")
 
     # Functions with a `requires`
@@ -308,12 +320,20 @@ class Checker:
             for name in bound.keys() & LIBRARIES:
                 self.say(f"{self.shown(file)}:{bound[name]}: {name} hides the library of that name")
 
+    def lent_fields(self):
+        """No struct and no record has a field that a contract would read as what a reference points to."""
+        for files, fields_in in ((self.sources, source.fields_in), (self.definitions, source.record_fields_in)):
+            for file in files:
+                for name, line in fields_in(self.texts[file]):
+                    if name in LENT:
+                        self.say(f"{self.shown(file)}:{line}: a field {name} reads in a contract as what a reference points to")
+
     def hold_import(self, at, i):
         if i.item == "*":
             self.say(f"{at}: {i.module}.* may bring another meaning of a symbol: name what is used")
         elif i.name in LIBRARIES:
             self.say(f"{at}: {i.name} hides the library of that name")
-        elif i.name in HOME_OF and (i.module, i.item) != (HOME_OF[i.name], i.name):
+        elif i.name in HOME_OF and (i.item != i.name or i.module not in {HOME_OF[i.name], *PASSED_ON}):
             self.say(f"{at}: {i.name} comes from elsewhere: {i.module}.{i.item}")
 
     def nothing_assumed(self):

@@ -7,15 +7,23 @@ from dataclasses import dataclass
 from functools import cache
 from pathlib import Path
 
-OPEN, CLOSE = "({[⌜⟦", ")}]⌝⟧"
+OPEN, CLOSE = "({[⟦", ")}]⟧"
 ANTT_COMMENT = re.compile(r"(?<!\S)--[^\n]*|\{-.*?-\}", re.S)
 LITERAL_OR_COMMENT = re.compile(r'"(?:\\.|[^"\\])*"|b?\'(?:\\.|[^\'\\])\'|//[^\n]*|/\*.*?\*/', re.S)
-HEAD = re.compile(r'(?P<mark>\bpub(?P<within>\s*\([^)]*\))?\s+)?(?:extern\s+"C"\s+)?\bfn\s+(?P<name>\w+)\s*(?:<[^>(]*>)?\s*\(')
-CLAUSE = re.compile(r"\s*(requires|ensures|ghost)\s*\{")
-TO_CLAUSES = re.compile(r"(?:\[(?:\[[^\]]*\]|[^\[\]])*\]|[^{;\[])*?(?=\s*(?:requires|ensures|ghost)\s*\{|\{|;)")
+HEAD = re.compile(
+    r'(?P<mark>\bpub(?P<within>\s*\([^)]*\))?\s+)?(?:(?:const|unsafe|final)\s+)*(?:extern\s+"C"\s+)?\bfn\s+(?P<name>\w+)\s*(?:<[^>(]*>)?\s*\('
+)
+# A clause may have a name, and a star where it is of memory.
+CLAUSE_HEAD = r"\s*\b(requires|ensures|ghost)\b\*?(?:\s+\w+)?\s*\{"
+CLAUSE = re.compile(CLAUSE_HEAD)
+TO_CLAUSES = re.compile(rf"(?:\[(?:\[[^\]]*\]|[^\[\]])*\]|[^{{;\[])*?(?={CLAUSE_HEAD}|\{{|;)")
 CALL = re.compile(r"(?<![\w.:])((?:\w+::)*\w+)\s*\(")
-RT_USE = re.compile(r"(?<!ghost )\buse\s+([\w:]+)(?:\s+as\s+(\w+))?\s*;")
+RT_USE = re.compile(r"(?<!ghost )\buse\s+([^;]+);")
+RT_NAMED = re.compile(r"([\w:]+)(?:\s+as\s+(\w+))?\s*(\{)?")
+FIELDS = re.compile(r"\bstruct\s+(\w+)[^{;(]*\{([^}]*)\}")
+ANTT_FIELD = re.compile(r"^[ \t]+(?:pub\s+)?([^\s:(){}]+)\s*:\s", re.M)
 IMPORT = re.compile(r"^[ \t]*(?:(?:ghost|pub|unfoldable)\s+)*use\s+(?P<path>[^\s{};]+)(?:\s*\{(?P<items>[^}]*)\})?(?:\s+as\s+(?P<alias>[^\s;]+))?", re.M)
+COMMA = re.compile(r",")
 BETWEEN, EQUALS = re.compile(r"\s(?:×|→|∗|∧|⊎|∨|in|do)\s|[;,]|λ[^.]*\.\s"), re.compile(r"\s≡\s")
 MARKS = r"(?:(?:unfoldable|abbrev|pub|record|data|axiom)\s+)*"
 ASSUMING = re.compile(r"\b(?:axiom|postulate|assume|trust|Axiom)\b")
@@ -95,8 +103,9 @@ def module_of(file):
 
 
 def parameters_of(text):
-    """The parameters of a signature as (name, type), in order."""
+    """The parameters of a signature as (name, type), in order; `&mut self` is the parameter self of the type `&mut Self`."""
     parts = re.split(r",(?![^\[<(]*[\]>)])", text)
+    parts = [re.sub(r"^\s*(&(?:'\w+\s+)?(?:mut\s+)?|mut\s+)?self\s*$", lambda m: f"self: {m[1] or ''}Self", part) for part in parts]
     pairs = (part.partition(":") for part in parts if ":" in part)
     return tuple((re.sub(r"^\s*mut\s+", "", name).strip(), spaced(kind)) for name, _, kind in pairs)
 
@@ -132,8 +141,22 @@ def functions_in(text, file):
 
 
 def brought_in(text):
-    """The names that the `use` lines of .rt text bring, each with its path."""
-    return {alias or path.rpartition("::")[2]: path for path, alias in RT_USE.findall(text)}
+    """The names that the `use` lines of .rt text bring, each with its path, also those in braces."""
+    brought = {}
+
+    def bring(text, above):
+        for part in filter(None, map(str.strip, outermost(text, COMMA))):
+            named = RT_NAMED.match(part)
+            path = f"{above}{named[1]}" if named else above
+            if named and named[3]:
+                bring(part[named.end():matching(part, named.end() - 1)], path)
+            elif named:
+                path = path.removesuffix("::self")
+                brought[named[2] or path.rpartition("::")[2]] = path
+
+    for used in RT_USE.findall(text):
+        bring(used, "")
+    return brought
 
 
 def full_names(called, module, brought):
@@ -154,27 +177,22 @@ def full_names(called, module, brought):
 # -- Clauses
 
 
-def result_binder(clause):
-    """The name that an `ensures` gives the result: the last that its λ binds; None where it has no λ or throws the result away."""
-    binders = re.match(r"λ\s*(.*?)\s*\.\s", clause + " ", re.S)
-    if not binders:
-        return None
-    name = re.sub(r"[({]\s*([^\s:]+)\s*:[^)}]*[)}]", r"\1", binders[1]).split()[-1]
-    return None if name == "_" else name
-
-
 def mentions(clause, name):
-    """Whether a clause has the name as a word of its own, after what its λ binds."""
-    body = re.sub(r"^λ\s*.*?\s*\.\s", "", clause, count=1, flags=re.S)
-    return re.search(rf"(?<![^\s(){{}}\[\]⌜⌝;,«]){re.escape(name)}(?![^\s(){{}}\[\]⌜⌝;,»])", body) is not None
+    """Whether a clause has the name as a word of its own, or a field of it."""
+    return re.search(rf"(?<![^\s(){{}}\[\];,«]){re.escape(name)}(?![^\s(){{}}\[\];,».])", clause) is not None
+
+
+def speaks_of(clause, name):
+    """Whether a clause says what a parameter that is lent for writing holds at the end."""
+    return re.search(rf"(?<![\w.'])[«]?{re.escape(name)}[»]?\s*\.new\b", clause) is not None
 
 
 def bare(text):
     """One spelling for a term: white space folded, brackets around the whole of it gone."""
     text = spaced(text)
-    while len(text) > 1 and text[0] in "(⌜" and matching(text, 0) == len(text) - 1:
+    while len(text) > 1 and text[0] == "(" and matching(text, 0) == len(text) - 1:
         text = text[1:-1].strip()
-    return re.sub(r"\s*([(){}\[\]⌜⌝])\s*", r"\1", text)
+    return re.sub(r"\s*([(){}\[\]])\s*", r"\1", text)
 
 
 def groups(text):
@@ -205,6 +223,13 @@ def equations(clause):
     parts = (part for group in groups(clause) if "≡" in group for part in outermost(group, BETWEEN))
     sides = (outermost(part, EQUALS) for part in parts)
     return [(bare(pair[0]), bare(pair[1])) for pair in sides if len(pair) == 2]
+
+
+def fields_in(text):
+    """The fields of the structs of .rt text, each with its line."""
+    for struct in FIELDS.finditer(text):
+        for field in re.finditer(r"(?:^|[,{\n])\s*(?:pub\s+)?(?:ghost\s+)?(\w+)\s*:", struct[2]):
+            yield field[1], line_at(text, struct.start(2) + field.start(1))
 
 
 # -- .antt text
@@ -246,6 +271,13 @@ def imports_in(text, ghost_alone):
 def declared_in(text):
     """What .antt text declares for others: by a signature at the left edge or with `pub`, as a record or as a data type."""
     return {signed or made for signed, made in DECLARED.findall(text)}
+
+
+def record_fields_in(text):
+    """The fields of the records of .antt text, each with its line."""
+    for made in re.finditer(r"^(?:(?:pub|abbrev|unfoldable)\s+)*record\s[^\n]*\bwhere\n((?:[ \t]+[^\n]*\n|\n)*)", text, re.M):
+        for field in ANTT_FIELD.finditer(made[1]):
+            yield field[1], line_at(text, made.start(1) + field.start(1))
 
 
 @cache

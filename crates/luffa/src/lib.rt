@@ -1,6 +1,6 @@
-// Everything that C can call, and nothing else: thin exports, each with the contract of the function that it calls. include/luffa.h declares
-// them; a slice is a pointer and then a length. Those over a lent struct copy it out, have the answer worked out by value, and where they
-// alter it store what the answer holds; they are what a program in Rattle calls too.
+// Everything that C can call, and nothing else: thin functions, each with the contract of the function that it calls. Those over a lent struct
+// copy it out, have the answer worked out by value, and where they alter it store what the answer holds. They are what a program in Rattle calls
+// too; luffa_c exports them to C.
 #![tactic(auto)]
 
 ghost use Rattle.std.specs.Prelude.{◌≡◌};
@@ -23,37 +23,28 @@ use plan_definition::ContentAnswer;
 use sheet_definition::{Answer, LocatedAnswer};
 
 // The digest of a message in one call.
-#[unsafe(no_mangle)]
-pub extern "C" fn luffa_digest(code: usize, message: &[u8], out: &mut [u8]) -> u32
+pub fn luffa_digest(code: usize, message: &[u8], out: &mut [u8]) -> u32
     ensures { record { number = result; buffer = out.new } ≡ digest_outcome code message.now out.old }
 {
     hash::digest(code, message, out)
 }
 
 // The digest of a message that may end with odd bits.
-#[unsafe(no_mangle)]
-pub extern "C" fn luffa_digest_bits(code: usize, message: &[u8], odd: usize, out: &mut [u8]) -> u32
+pub fn luffa_digest_bits(code: usize, message: &[u8], odd: usize, out: &mut [u8]) -> u32
     ensures { record { number = result; buffer = out.new } ≡ digest_bits_outcome code message.now odd out.old }
 {
     hash::digest_bits(code, message, odd, out)
 }
 
 // Longer output of a message.
-#[unsafe(no_mangle)]
-pub extern "C" fn luffa_output(
-    code: usize,
-    words: usize,
-    message: &[u8],
-    out: &mut [u8],
-) -> OutputAnswer
+pub fn luffa_output(code: usize, words: usize, message: &[u8], out: &mut [u8]) -> OutputAnswer
     ensures { record { answer = result; buffer = out.new } ≡ output_outcome code words message.now out.old }
 {
     hash::output(code, words, message, out)
 }
 
 // Longer output of a message that may end with odd bits.
-#[unsafe(no_mangle)]
-pub extern "C" fn luffa_output_bits(
+pub fn luffa_output_bits(
     code: usize,
     words: usize,
     message: &[u8],
@@ -66,56 +57,49 @@ pub extern "C" fn luffa_output_bits(
 }
 
 // A fresh hash record at a code.
-#[unsafe(no_mangle)]
-pub extern "C" fn luffa_start(code: usize, record: &mut [u8]) -> u32
+pub fn luffa_start(code: usize, record: &mut [u8]) -> u32
     ensures { record { number = result; buffer = «record».new } ≡ start_outcome code «record».old }
 {
     hash::start(code, record)
 }
 
 // A piece fed to a hash record.
-#[unsafe(no_mangle)]
-pub extern "C" fn luffa_feed(record: &mut [u8], piece: &[u8]) -> u32
+pub fn luffa_feed(record: &mut [u8], piece: &[u8]) -> u32
     ensures { record { number = result; buffer = «record».new } ≡ feed_outcome «record».old piece.now }
 {
     hash::feed(record, piece)
 }
 
 // A piece that may end with odd bits, fed to a hash record.
-#[unsafe(no_mangle)]
-pub extern "C" fn luffa_feed_bits(record: &mut [u8], piece: &[u8], odd: usize) -> u32
+pub fn luffa_feed_bits(record: &mut [u8], piece: &[u8], odd: usize) -> u32
     ensures { record { number = result; buffer = «record».new } ≡ feed_bits_outcome «record».old piece.now odd }
 {
     hash::feed_bits(record, piece, odd)
 }
 
 // The digest of what a hash record was fed.
-#[unsafe(no_mangle)]
-pub extern "C" fn luffa_finish(record: &[u8], out: &mut [u8]) -> u32
+pub fn luffa_finish(record: &[u8], out: &mut [u8]) -> u32
     ensures { record { number = result; buffer = out.new } ≡ finish_outcome «record».now out.old }
 {
     hash::finish(record, out)
 }
 
 // Longer output of what a hash record was fed.
-#[unsafe(no_mangle)]
-pub extern "C" fn luffa_finish_output(record: &[u8], words: usize, out: &mut [u8]) -> OutputAnswer
+pub fn luffa_finish_output(record: &[u8], words: usize, out: &mut [u8]) -> OutputAnswer
     ensures { record { answer = result; buffer = out.new } ≡ finish_output_outcome «record».now words out.old }
 {
     hash::finish_output(record, words, out)
 }
 
 // A step back over the last block of what a hash record was fed.
-#[unsafe(no_mangle)]
-pub extern "C" fn luffa_back(record: &mut [u8], block: &[u8]) -> u32
+pub fn luffa_back(record: &mut [u8], block: &[u8]) -> u32
     ensures { record { number = result; buffer = «record».new } ≡ back_outcome «record».old block.now }
 {
     hash_back::back(record, block)
 }
 
 // A fresh working state at a code, in a struct that the caller lends.
-#[unsafe(no_mangle)]
-pub extern "C" fn luffa_hash_start(code: usize, hash: &mut Kept) -> u32
+pub fn luffa_hash_start(code: usize, hash: &mut Kept) -> u32
     ensures { record { number = result; kept = hash.new } ≡ lent_start_outcome code hash.old }
 {
     let v = *hash;
@@ -126,8 +110,7 @@ pub extern "C" fn luffa_hash_start(code: usize, hash: &mut Kept) -> u32
 
 // A piece that may end with odd bits, fed to a working state, which is altered where it stands: of a piece that completes no block only what it
 // alters is stored.
-#[unsafe(no_mangle)]
-pub extern "C" fn luffa_hash_feed_bits(hash: &mut Kept, piece: &[u8], odd: usize) -> u32
+pub fn luffa_hash_feed_bits(hash: &mut Kept, piece: &[u8], odd: usize) -> u32
     ensures { record { number = result; kept = hash.new } ≡ lent_feed_bits_outcome hash.old piece.now odd }
 {
     let v = *hash;
@@ -146,16 +129,14 @@ pub extern "C" fn luffa_hash_feed_bits(hash: &mut Kept, piece: &[u8], odd: usize
 }
 
 // The same of a piece of whole bytes.
-#[unsafe(no_mangle)]
-pub extern "C" fn luffa_hash_feed(hash: &mut Kept, piece: &[u8]) -> u32
+pub fn luffa_hash_feed(hash: &mut Kept, piece: &[u8]) -> u32
     ensures { record { number = result; kept = hash.new } ≡ lent_feed_outcome hash.old piece.now }
 {
     luffa_hash_feed_bits(hash, piece, 0)
 }
 
 // The digest of what a working state was fed.
-#[unsafe(no_mangle)]
-pub extern "C" fn luffa_hash_finish(hash: &Kept, out: &mut [u8]) -> u32
+pub fn luffa_hash_finish(hash: &Kept, out: &mut [u8]) -> u32
     ensures { record { number = result; buffer = out.new } ≡ lent_finish_outcome hash.now out.old }
 {
     let v = *hash;
@@ -163,12 +144,7 @@ pub extern "C" fn luffa_hash_finish(hash: &Kept, out: &mut [u8]) -> u32
 }
 
 // Longer output of what a working state was fed.
-#[unsafe(no_mangle)]
-pub extern "C" fn luffa_hash_finish_output(
-    hash: &Kept,
-    words: usize,
-    out: &mut [u8],
-) -> OutputAnswer
+pub fn luffa_hash_finish_output(hash: &Kept, words: usize, out: &mut [u8]) -> OutputAnswer
     ensures { record { answer = result; buffer = out.new } ≡ lent_finish_output_outcome hash.now words out.old }
 {
     let v = *hash;
@@ -176,8 +152,7 @@ pub extern "C" fn luffa_hash_finish_output(
 }
 
 // All marks of a sheet, and its digest.
-#[unsafe(no_mangle)]
-pub extern "C" fn luffa_sheet_build(
+pub fn luffa_sheet_build(
     code: usize,
     sheet: &[u8],
     n: usize,
@@ -190,8 +165,7 @@ pub extern "C" fn luffa_sheet_build(
 }
 
 // A record replaced.
-#[unsafe(no_mangle)]
-pub extern "C" fn luffa_sheet_change(
+pub fn luffa_sheet_change(
     code: usize,
     sheet: &mut [u8],
     n: usize,
@@ -207,8 +181,7 @@ pub extern "C" fn luffa_sheet_change(
 }
 
 // The records at up to 64 places replaced in one save.
-#[unsafe(no_mangle)]
-pub extern "C" fn luffa_sheet_batch(
+pub fn luffa_sheet_batch(
     code: usize,
     sheet: &mut [u8],
     n: usize,
@@ -224,8 +197,7 @@ pub extern "C" fn luffa_sheet_batch(
 }
 
 // Struck records removed, with the old place of each that is left.
-#[unsafe(no_mangle)]
-pub extern "C" fn luffa_sheet_close_up(
+pub fn luffa_sheet_close_up(
     code: usize,
     sheet: &mut [u8],
     n: usize,
@@ -240,8 +212,7 @@ pub extern "C" fn luffa_sheet_close_up(
 }
 
 // A record added at the end.
-#[unsafe(no_mangle)]
-pub extern "C" fn luffa_sheet_append(
+pub fn luffa_sheet_append(
     code: usize,
     sheet: &mut [u8],
     n: usize,
@@ -256,8 +227,7 @@ pub extern "C" fn luffa_sheet_append(
 }
 
 // The last record taken away.
-#[unsafe(no_mangle)]
-pub extern "C" fn luffa_sheet_drop(
+pub fn luffa_sheet_drop(
     code: usize,
     sheet: &mut [u8],
     n: usize,
@@ -271,8 +241,7 @@ pub extern "C" fn luffa_sheet_drop(
 }
 
 // A record replaced, and where the sheet differs if it is stale.
-#[unsafe(no_mangle)]
-pub extern "C" fn luffa_sheet_change_own(
+pub fn luffa_sheet_change_own(
     code: usize,
     sheet: &mut [u8],
     n: usize,
@@ -295,8 +264,7 @@ pub extern "C" fn luffa_sheet_change_own(
 }
 
 // A record added at the end, and where the sheet differs if it is stale.
-#[unsafe(no_mangle)]
-pub extern "C" fn luffa_sheet_append_own(
+pub fn luffa_sheet_append_own(
     code: usize,
     sheet: &mut [u8],
     n: usize,
@@ -316,8 +284,7 @@ pub extern "C" fn luffa_sheet_append_own(
 }
 
 // The last record taken away, and where the sheet differs if it is stale.
-#[unsafe(no_mangle)]
-pub extern "C" fn luffa_sheet_drop_own(
+pub fn luffa_sheet_drop_own(
     code: usize,
     sheet: &mut [u8],
     n: usize,
@@ -336,13 +303,7 @@ pub extern "C" fn luffa_sheet_drop_own(
 }
 
 // The marks of a sheet, those that are wrong replaced.
-#[unsafe(no_mangle)]
-pub extern "C" fn luffa_sheet_mend(
-    code: usize,
-    sheet: &[u8],
-    n: usize,
-    marks: &mut [u32],
-) -> MendAnswer
+pub fn luffa_sheet_mend(code: usize, sheet: &[u8], n: usize, marks: &mut [u32]) -> MendAnswer
     ensures value { result ≡ mend_answer (mend_outcome code sheet.now n marks.old).answer }
     ensures marks_after { marks.new ≡ (mend_outcome code sheet.now n marks.old).marks }
 {
@@ -350,16 +311,14 @@ pub extern "C" fn luffa_sheet_mend(
 }
 
 // Whether the records of a sheet make sense, in this paper's numbers.
-#[unsafe(no_mangle)]
-pub extern "C" fn luffa_plan_check(sheet: &[u8], n: usize) -> ContentAnswer
+pub fn luffa_plan_check(sheet: &[u8], n: usize) -> ContentAnswer
     ensures { result ≡ answer_of (verdict sheet.now n) }
 {
     plan::answer(plan::check(sheet, n))
 }
 
 // The brine statement over a batch of sheets.
-#[unsafe(no_mangle)]
-pub extern "C" fn luffa_plan_brine(
+pub fn luffa_plan_brine(
     sheets: &[u8],
     counts: &[usize],
     intake: &mut [u64],
@@ -371,14 +330,7 @@ pub extern "C" fn luffa_plan_brine(
 }
 
 // Who depends on a well: the records that so many hops reach.
-#[unsafe(no_mangle)]
-pub extern "C" fn luffa_plan_reach(
-    sheet: &[u8],
-    n: usize,
-    well: usize,
-    hops: usize,
-    reached: &mut [u8],
-) -> u32
+pub fn luffa_plan_reach(sheet: &[u8], n: usize, well: usize, hops: usize, reached: &mut [u8]) -> u32
     ensures { record { number = result; reached = reached.new } ≡ reach_outcome sheet.now n well hops reached.old }
 {
     reach::reach(sheet, n, well, hops, reached)
