@@ -12,7 +12,7 @@ use Rattle.generator.specs.Turns.{applied}
 use Rattle.generator.proofs.Turns.{masks_out, initial_64, applied_64}
 use Rattle.back_definition.specs.Step.{step_back, steps_back}
 use Rattle.back_definition.proofs.Words.{xor-back}
-use Rattle.permutation_back.specs.Generator.{f_lback}
+use Rattle.permutation_back.specs.Generator.{f_l_back}
 
 -- the exchange undoes itself
 exchanged-back : (t : ℕ) → t < 2 ^ 64 → exchanged (exchanged t) ≡ t
@@ -30,8 +30,8 @@ halved t =
     rw e (mul-div_cancel (t % 2 ^ 63) (zero-lt-suc 1))
 
 -- f_L undone by its lowest bit
-f_l-back : (t : ℕ) → t < 2 ^ 64 → f_lback (f_l t) ≡ t
-unfolding f_lback f_l
+f_l-back : (t : ℕ) → t < 2 ^ 64 → f_l_back (f_l t) ≡ t
+unfolding f_l_back f_l
 f_l-back t h =
     let c : ℕ = t / 2 ^ 63 in
     let d : ℕ = t * 2 % 2 ^ 64 in
@@ -40,8 +40,8 @@ f_l-back t h =
     rw (e, xor-back d (c * g), halved t) (div-add-mod' t (2 ^ 63))
 
 -- one application undone
-pub turned : (t : ℕ) → t < 2 ^ 64 → f_lback (exchanged (exchanged (f_l t))) ≡ t
-turned t h = ap f_lback (exchanged-back (f_l t) (f_64 t h)) ∙ f_l-back t h
+pub turned : (t : ℕ) → t < 2 ^ 64 → f_l_back (exchanged (exchanged (f_l t))) ≡ t
+turned t h = ap f_l_back (exchanged-back (f_l t) (f_64 t h)) ∙ f_l-back t h
 
 -- one step's constants, the last pair of those from a number on undone first: with t after two applications of s
 pub step_more : (i s : ℕ) (b : Block) → s < 2 ^ 64
@@ -71,8 +71,8 @@ exchanged_64 t h = joined_64 (t % 2 ^ 32) (t / 2 ^ 32) (omega arith) (shr_lt 32 
 
 -- the same as the machine's operations give it: a bit taken from 0 is a mask
 pub by_mask : (f r : ℕ) → f < 2 ^ 64 → r < 2 ^ 64 → (r + f % 2) % 2 ^ 64 ≡ 0
-    → bit_or (f % 2 * 2 ^ 63 % 2 ^ 64) (bit_xor f (bit_and r 0xc4d6496c55c61c8d) / 2) ≡ f_lback f
-unfolding f_lback
+    → bit_or (f % 2 * 2 ^ 63 % 2 ^ 64) (bit_xor f (bit_and r 0xc4d6496c55c61c8d) / 2) ≡ f_l_back f
+unfolding f_l_back
 by_mask f r hf hr e =
     let two : f % 2 < 2 = mod-lt f (zero-lt-suc 1) in
     let m : bit_and r 0xc4d6496c55c61c8d ≡ f % 2 * 0xc4d6496c55c61c8d = masks_out 64 r (f % 2) 0xc4d6496c55c61c8d two hr mask_64 e in
@@ -81,7 +81,7 @@ by_mask f r hf hr e =
 
 -- the loop's body: two applications undone, and one step with what they gave
 pub once_more : (i j t t1 t2 : ℕ) (a b r : Block) → i < 8 → t ≡ applied (2 * (8 - i)) (initial j) → a ≡ steps_back (constants_from i t) b
-    → t1 ≡ f_lback (exchanged t) → t2 ≡ f_lback (exchanged t1) → r ≡ step_back (record { left = t1 % 2 ^ 32; right = t % 2 ^ 32 }) a
+    → t1 ≡ f_l_back (exchanged t) → t2 ≡ f_l_back (exchanged t1) → r ≡ step_back (record { left = t1 % 2 ^ 32; right = t % 2 ^ 32 }) a
     → (t2 ≡ applied (2 * (8 - (i + 1))) (initial j)) × (r ≡ steps_back (constants_from (i + 1) t2) b)
 unfolding applied
 once_more i j t t1 t2 a b r h et ea e1 e2 er =
@@ -91,7 +91,7 @@ once_more i j t t1 t2 a b r h et ea e1 e2 er =
     let u1 : ℕ = exchanged (f_l s) in
     let n : 2 * (8 - i) ≡ suc (suc m) = omega arith in
     let pt : t ≡ exchanged (f_l u1) = et ∙ ap (λ (n : ℕ). applied n (initial j)) n in
-    let p1 : t1 ≡ u1 = e1 ∙ ap (λ (x : ℕ). f_lback (exchanged x)) pt ∙ turned u1 (still_64 s hs) in
-    let p2 : t2 ≡ s = e2 ∙ ap (λ (x : ℕ). f_lback (exchanged x)) p1 ∙ turned s hs in
+    let p1 : t1 ≡ u1 = e1 ∙ ap (λ (x : ℕ). f_l_back (exchanged x)) pt ∙ turned u1 (still_64 s hs) in
+    let p2 : t2 ≡ s = e2 ∙ ap (λ (x : ℕ). f_l_back (exchanged x)) p1 ∙ turned s hs in
     let q : step_back (record { left = t1 % 2 ^ 32; right = t % 2 ^ 32 }) a ≡ steps_back (constants_from (suc i) s) b = rw (ea, p1, pt) (step_more i s b hs) in
     (p2, er ∙ q ∙ λ n. steps_back (constants_from (sym (add-one i) n) (sym p2 n)) b)

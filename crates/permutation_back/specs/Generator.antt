@@ -3,5 +3,5 @@ use Rattle.std.specs.Prelude.{ℕ, ◌+◌, ◌*◌, ◌/◌, ◌%◌, ◌^◌, 
 use Rattle.definition.specs.Constant.{g}
 
 -- 4.4: g is odd, so the lowest bit of f_L's number says whether x^64 appeared and g was taken away
-unfoldable pub f_lback : ℕ → ℕ
-f_lback t = t % 2 * 2 ^ 63 + bit_xor t (t % 2 * g) / 2
+unfoldable pub f_l_back : ℕ → ℕ
+f_l_back t = t % 2 * 2 ^ 63 + bit_xor t (t % 2 * g) / 2

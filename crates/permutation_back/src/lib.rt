@@ -10,7 +10,7 @@ ghost use Rattle.definition.specs.State.{blocks_in, state_of};
 ghost use Rattle.generator.specs.Turns.{applied};
 ghost use Rattle.back_definition.specs.Step.{steps_back, tweak_back, permute_back};
 ghost use Rattle.back_definition.specs.Round.{permute_back_from};
-ghost use Rattle.permutation_back.specs.Generator.{f_lback};
+ghost use Rattle.permutation_back.specs.Generator.{f_l_back};
 
 use definition::{Block, Pair, State, Width};
 
@@ -26,7 +26,7 @@ const STARTS: [u64; 5] = [
 // One application of the generator undone: the exchange undoes itself, and f_L is undone by the lowest bit of what it gives. g is odd and twice a
 // number is even, so that bit is 1 exactly where g was taken away.
 fn turn_back(t: u64) -> u64
-    ensures { result ≡ f_lback (exchanged t) }
+    ensures { result ≡ f_l_back (exchanged t) }
 {
     let f = (t << 32) | (t >> 32);
     let taken = std::num::wrapping_sub_u64(0, f % 2) & generator::MASK;
