@@ -27,6 +27,7 @@ HOME = {
     "lib.Dec": "leb ltb eqb",
     "lib.Bits": "bit_xor bit_or bit_and",
     "Rattle.core.specs.Bool": "nat_eq nat_lt nat_le ◌==◌",
+    "Rattle.core.specs.List": "slice_index slice_set",
 }
 HOME_OF = {name: module for module, names in HOME.items() for name in names.split()}
 # The modules of the library that pass these on, and declare none of them.
