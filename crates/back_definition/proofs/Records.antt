@@ -27,7 +27,6 @@ use Rattle.definition.proofs.Bounds.{Words, round-words}
 use Rattle.definition.proofs.Chain.{blocks_of_state, blocks_of_round, length-round}
 use Rattle.hash_definition.proofs.AnyRecord.{sound, block_words}
 use Rattle.hash_definition.proofs.Feeding.{well_kept_lem, Sound, fed-sound, fed-count, fed-odd, fed-code}
-use Rattle.hash_definition.proofs.Formed.{formed}
 use Rattle.hash_definition.proofs.Records.{encode-decode, block_glue}
 use Rattle.hash_definition.proofs.Takes.{Takes, takes}
 use Rattle.hash_definition.proofs.Working.{in_bytes_lem, lent_decoded, lent-formed, lent-feed, sound_typed, sound-byte}

@@ -7,7 +7,6 @@ use native.Mathlib.Omega.{arith}
 use lib.ListN.{length, replicate, length-replicate, get_or-replicate}
 use Rattle.plan_definition.specs.Well.{wells}
 use Rattle.plan_definition.specs.Rules.{injector}
-use Rattle.plan_definition.specs.Check.{sound}
 use Rattle.plan_definition.proofs.Places.{well_at}
 use Rattle.plan_definition.proofs.Tested.{sound_tested}
 use Rattle.plan_definition.proofs.Listed.{length-wells, column}

@@ -21,7 +21,7 @@ use Rattle.sheet_definition.specs.SheetCalls.Kind.{Change, Append, Drop, Batch, 
 use Rattle.sheet_definition.specs.Run.{left, next}
 use Rattle.sheet_definition.specs.Said.{Stays}
 use Rattle.sheet_definition.proofs.Writes.{same_refl, length-digest}
-use Rattle.sheet_definition.proofs.Outcomes.{accepted, done_exactly}
+use Rattle.sheet_definition.proofs.Outcomes.{done_exactly}
 use Rattle.sheet_definition.proofs.Refused.{Fits}
 use Rattle.sheet_definition.proofs.Many.{Below}
 use Rattle.sheet_definition.proofs.Fair.{Fair, read-written, groups_stay}

@@ -1,6 +1,6 @@
 -- A record as it is read once for both its judging and its use, glanced at where its state isn't needed, and written where it has its length:
 -- document 01, "The kept hash record", and document 02, Q-7, "216 bytes".
-use Rattle.std.specs.Prelude.{ℕ, ◌+◌, ◌%◌, Bool, false, ◌&&◌, List, [], ◌∷◌, ◌++◌, eqb, length, take, drop, replicate}
+use Rattle.std.specs.Prelude.{ℕ, ◌%◌, Bool, false, ◌&&◌, List, [], ◌∷◌, ◌++◌, eqb, length, take, drop, replicate}
 use Rattle.definition.specs.State.{state_of}
 use Rattle.definition.specs.Word.{bytes_of_all}
 use Rattle.definition.specs.Refusal.{pick}

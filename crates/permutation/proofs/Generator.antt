@@ -1,7 +1,7 @@
 -- The generator beside a block is that of 4.4: after i steps it has made 2i applications, in one number or in two words, and the steps taken are
 -- those of the constants that it gives.
 -- Assumes nothing.
-use Rattle.std.proofs.Common.{◌≡◌, ℕ, zero, suc, ◌-◌, ◌*◌, ◌^◌, ◌<◌, true, refl, ap, ◌∙◌, arith}
+use Rattle.std.proofs.Common.{◌≡◌, ℕ, zero, suc, ◌*◌, ◌^◌, ◌<◌, true, refl, ap, ◌∙◌, arith}
 use Rattle.definition.specs.declared.Block.{Block}
 use Rattle.definition.specs.Constant.{f_l, exchanged, initial, constants_from}
 use Rattle.definition.specs.AppendixB.{halves_of}

@@ -1,5 +1,5 @@
 -- The final stage as the code runs it, a word at a time: a blank round before every eighth word.
-use Rattle.std.specs.Prelude.{ℕ, zero, suc, ◌+◌, ◌%◌, Bool, true, false, List, [], ◌∷◌, ◌++◌, eqb, get_or}
+use Rattle.std.specs.Prelude.{ℕ, zero, suc, ◌%◌, Bool, true, false, List, [], ◌∷◌, ◌++◌, eqb, get_or}
 use Rattle.definition.specs.declared.Counted.{Counted}
 use Rattle.definition.specs.declared.Width.{Width}
 use Rattle.definition.specs.Block.{zero_block, xor_all, words_of}

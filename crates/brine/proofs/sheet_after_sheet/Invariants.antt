@@ -1,6 +1,6 @@
 -- The invariants of `brine::sheet_after_sheet`.
 use Prim.Native.Nat.{◌-◌}
-use lib.ListN.{length, take}
+use lib.ListN.{length}
 use Rattle.brine.proofs.Upto.{Upto}
 use Rattle.brine.proofs.sheet_after_sheet.Given as goal
 

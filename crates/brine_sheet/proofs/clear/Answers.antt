@@ -1,10 +1,9 @@
 -- `brine_sheet::clear` meets its contract. The loop's invariant: the first i places of both lists are zeros.
 -- Assumes nothing.
 use mathlib.Core.Path.{◌≡◌, refl}
-use Prim.Native.Nat.{◌-◌}
 use native.Mathlib.Omega.{arith}
 use lib.IntN.{pos}
-use lib.ListN.{length, take, length-set}
+use lib.ListN.{length, length-set}
 use Rattle.plan_definition.proofs.Filled.{filled_more, filled_all}
 use Rattle.brine_sheet.proofs.clear.Goals as goal
 

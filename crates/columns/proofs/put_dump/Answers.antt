@@ -2,11 +2,11 @@
 -- Assumes nothing.
 use mathlib.Core.Path.{◌≡◌, refl, ap, ◌∙◌}
 use mathlib.Core.List.{List}
-use Prim.Native.Nat.{ℕ, ◌+◌, ◌-◌}
+use Prim.Native.Nat.{ℕ, ◌+◌}
 use native.Mathlib.Nat.{mul_comm}
 use native.Mathlib.Omega.{arith}
 use lib.ListN.{length}
-use Rattle.columns_definition.specs.Dump.{column, dump, blocks_of}
+use Rattle.columns_definition.specs.Dump.{dump, blocks_of}
 use Rattle.columns_definition.proofs.Calls.{length-blocks}
 use Rattle.columns_definition.proofs.Dumps.{length_column_of}
 use Rattle.columns_definition.proofs.Filling.{rows_none, rows_more, rows-length, rows_all}

@@ -4,7 +4,7 @@ use mathlib.Core.List.{List}
 use Prim.Native.Nat.{ℕ, ◌-◌, ◌≤◌}
 use lib.ListN.{length}
 use Rattle.definition.specs.Buffer.{overwrite_at}
-use Rattle.columns_definition.specs.Dump.{rows_to, column, dump, blocks_of}
+use Rattle.columns_definition.specs.Dump.{rows_to, column, blocks_of}
 use Rattle.columns.proofs.put_dump.Given as goal
 
 -- the bytes at position l

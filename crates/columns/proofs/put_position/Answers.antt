@@ -2,12 +2,12 @@
 -- Assumes nothing.
 use mathlib.Core.Path.{◌≡◌, refl, ap, ap₂, ◌∙◌}
 use mathlib.Core.List.{List}
-use Prim.Native.Nat.{ℕ, ◌+◌, ◌-◌, ◌*◌}
+use Prim.Native.Nat.{ℕ, ◌+◌, ◌*◌}
 use native.Mathlib.Omega.{arith}
-use lib.ListN.{length, set, drop, length-set}
+use lib.ListN.{set, drop, length-set}
 use Rattle.definition.specs.Block.{block_from}
 use Rattle.definition.specs.Field.{element}
-use Rattle.columns_definition.specs.Dump.{up_to, column, blocks_of}
+use Rattle.columns_definition.specs.Dump.{column, blocks_of}
 use Rattle.columns_definition.proofs.Dumps.{map-up_to}
 use Rattle.columns_definition.proofs.Filling.{element_none, element_more}
 use Rattle.columns_definition.proofs.Rows.{row_inside}

@@ -3,7 +3,7 @@ use mathlib.Core.Path.{◌≡◌}
 use Prim.Native.Nat.{◌-◌, ◌≤◌}
 use lib.ListN.{length}
 use Rattle.definition.specs.declared.Width.TheVariants.{W4}
-use Rattle.columns_definition.specs.Products.{products_of, products}
+use Rattle.columns_definition.specs.Products.{products_of}
 use Rattle.columns_inject.proofs.Injecting.{injected_to}
 use Rattle.columns_inject.proofs.inject4.Given as goal
 

@@ -1,11 +1,11 @@
 -- `columns_inject::position` meets its contract. The loop's invariant: the first j bytes are read.
 -- Assumes nothing.
 use mathlib.Core.Path.{◌≡◌, refl, sym, ◌∙◌}
-use Prim.Native.Nat.{ℕ, ◌+◌, ◌-◌, ◌*◌}
+use Prim.Native.Nat.{ℕ, ◌+◌, ◌*◌}
 use native.Mathlib.Nat.{mul_comm}
 use native.Mathlib.Numerals.{add-one}
 use native.Mathlib.Omega.{arith}
-use lib.ListN.{length, get_or, take, length-set}
+use lib.ListN.{get_or, length-set}
 use lib.Seq.{take-suc-set}
 use Rattle.columns_definition.specs.Dump.{up_to, column_at}
 use Rattle.columns_definition.proofs.Rows.{up_to-of, length-column, column-place, row_inside}

@@ -1,13 +1,13 @@
 -- `mend::mend` meets its contract. The loop's invariant: the walk stands at mark k.
 -- Assumes nothing.
 use mathlib.Core.Path.{◌≡◌, refl, sym, ◌∙◌}
-use Prim.Native.Nat.{◌-◌, ◌/◌, ◌≤◌}
+use Prim.Native.Nat.{◌/◌, ◌≤◌}
 use native.Mathlib.Numerals.{add-one}
 use native.Mathlib.Omega.{arith}
 use Rattle.definition.specs.Refusal.{first_of}
 use Rattle.definition.specs.Round.{chain}
 use Rattle.definition.specs.Padding.{blocks_to, blocks}
-use Rattle.sheet_definition.specs.Sheet.{World, most, q}
+use Rattle.sheet_definition.specs.Sheet.{World, q}
 use Rattle.sheet_definition.specs.Marks.{state_after}
 use Rattle.mend_definition.specs.Mend.{replaced, wrong_of, first_in, saying, mend_refusals}
 use Rattle.mend_definition.proofs.Outcomes.{room, mend-refused, mend_done}

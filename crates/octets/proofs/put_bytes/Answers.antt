@@ -1,11 +1,10 @@
 -- `octets::put_bytes` meets its contract. The loop's invariant: the first j bytes are copied.
 -- Assumes nothing.
 use mathlib.Core.Path.{◌≡◌, sym, ◌∙◌}
-use Prim.Native.Nat.{◌-◌}
 use native.Mathlib.Numerals.{add-one}
 use native.Mathlib.Omega.{arith}
 use lib.ListN.{length}
-use lib.Seq.{paste, paste-zero, paste-suc, take-length}
+use lib.Seq.{paste-zero, paste-suc, take-length}
 use Rattle.definition.specs.Buffer.{overwrite_at}
 use Rattle.octets.proofs.Parts.{pasted_length}
 use Rattle.octets.proofs.Total.{write_at_lem, write_not}

@@ -3,7 +3,7 @@ use mathlib.Core.Path.{◌≡◌}
 use mathlib.Core.List.{List}
 use Prim.Native.Nat.{ℕ, ◌+◌, ◌-◌, ◌*◌, ◌^◌, ◌<◌, ◌≤◌}
 use lib.ListN.{length, take}
-use Rattle.definition.specs.Word.{bytes_of, bytes_of_all}
+use Rattle.definition.specs.Word.{bytes_of_all}
 use Rattle.octets.specs.Total.{write_at}
 use Rattle.octets.proofs.put_words.Given as goal
 

@@ -1,6 +1,6 @@
 -- `permutation::all_steps` meets its contract. The loop's invariant: each lane, and the fifth block beside them, has i steps behind it.
 -- Assumes nothing.
-use Rattle.std.proofs.Common.{◌≡◌, ◌-◌, refl, ap, ◌∙◌, add-one, arith}
+use Rattle.std.proofs.Common.{◌≡◌, refl, ap, ◌∙◌, add-one, arith}
 use Rattle.definition.specs.Constant.{initial}
 use Rattle.permutation.specs.Lanes.{lane, lanes_of, after, fifth_after, all_after}
 use Rattle.permutation.proofs.Lanes.{from_lanes, lanes_after, stepped-after}

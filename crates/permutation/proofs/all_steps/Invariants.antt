@@ -1,7 +1,6 @@
 -- The invariants of `permutation::all_steps`.
 use Rattle.std.proofs.Common.{◌≡◌, ◌-◌, ◌≤◌}
-use Rattle.definition.specs.Constant.{initial}
-use Rattle.permutation.specs.Lanes.{lane, after, fifth_after}
+use Rattle.permutation.specs.Lanes.{fifth_after}
 use Rattle.permutation.proofs.Lanes.{lanes_after}
 use Rattle.permutation.proofs.all_steps.Given as goal
 

@@ -1,6 +1,6 @@
 -- `permutation::step_lanes` meets its contract. The loop's invariant: the first j lanes are stepped, one after the other.
 -- Assumes nothing.
-use Rattle.std.proofs.Common.{◌≡◌, ℕ, ◌-◌, refl, ap, ◌∙◌, add-one, arith, rules}
+use Rattle.std.proofs.Common.{◌≡◌, ℕ, refl, ap, ◌∙◌, add-one, arith, rules}
 use Rattle.permutation.specs.Lanes.{lane}
 use Rattle.permutation.proofs.Lanes.{run_lanes, all_lanes}
 use Rattle.permutation.proofs.step_lanes.Goals as goal

@@ -1,6 +1,5 @@
 -- The invariants of `permutation::step_lanes`.
 use Rattle.std.proofs.Common.{◌≡◌, ◌-◌, ◌≤◌}
-use Rattle.permutation.specs.Lanes.{lane}
 use Rattle.permutation.proofs.Lanes.{run_lanes}
 use Rattle.permutation.proofs.step_lanes.Given as goal
 

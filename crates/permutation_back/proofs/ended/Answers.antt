@@ -1,6 +1,6 @@
 -- `permutation_back::ended` meets its contract. The loop's invariant: i applications.
 -- Assumes nothing.
-use Rattle.std.proofs.Common.{◌≡◌, ◌-◌, refl, add-one, arith}
+use Rattle.std.proofs.Common.{◌≡◌, refl, add-one, arith}
 use Rattle.generator.specs.Turns.{applied}
 use Rattle.permutation_back.proofs.ended.Goals as goal
 

@@ -1,6 +1,6 @@
 -- `permutation_back::steps` meets its contract. The loop's invariant: the last i steps are undone, and the generator has come back before them.
 -- Assumes nothing.
-use Rattle.std.proofs.Common.{◌≡◌, ◌-◌, refl, arith}
+use Rattle.std.proofs.Common.{◌≡◌, refl, arith}
 use Rattle.definition.specs.Constant.{constants_from, constants}
 use Rattle.generator.specs.Turns.{applied}
 use Rattle.back_definition.specs.Step.{steps_back}

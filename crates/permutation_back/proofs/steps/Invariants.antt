@@ -1,6 +1,6 @@
 -- The invariants of `permutation_back::steps`.
 use Rattle.std.proofs.Common.{◌≡◌, ◌-◌, ◌*◌, ◌≤◌}
-use Rattle.definition.specs.Constant.{initial, constants_from, constants}
+use Rattle.definition.specs.Constant.{initial, constants_from}
 use Rattle.generator.specs.Turns.{applied}
 use Rattle.back_definition.specs.Step.{steps_back}
 use Rattle.permutation_back.proofs.steps.Given as goal

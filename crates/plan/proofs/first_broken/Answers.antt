@@ -2,7 +2,7 @@
 -- Assumes nothing.
 use mathlib.Core.Path.{◌≡◌, sym, ap, ◌∙◌}
 use mathlib.Core.Bool.{Bool, ◌||◌}
-use Prim.Native.Nat.{ℕ, suc, ◌-◌}
+use Prim.Native.Nat.{ℕ, suc}
 use native.Mathlib.Numerals.{add-one}
 use native.Mathlib.Omega.{arith}
 use lib.Dec.{eqb}
@@ -13,7 +13,7 @@ use Rattle.plan_definition.specs.Check.{found_at, first_fault}
 use Rattle.plan_definition.proofs.Struck.{exempt_rules}
 use Rattle.plan_definition.proofs.Places.{well_at, left, left_all, left_step, left_none, before_none, before-step}
 use Rattle.plan_definition.proofs.Faults.{found}
-use Rattle.plan_numbers.specs.Numbers.{has, plus}
+use Rattle.plan_numbers.specs.Numbers.{plus}
 use Rattle.plan_numbers.proofs.Numbers.{none_has}
 use Rattle.plan_record.proofs.Total.{well_read}
 use Rattle.plan.proofs.Passed.{by_sets}

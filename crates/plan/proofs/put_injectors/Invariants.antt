@@ -2,7 +2,7 @@
 use mathlib.Core.Path.{◌≡◌}
 use mathlib.Core.Bool.{◌||◌}
 use Prim.Native.Nat.{ℕ, ◌-◌, ◌≤◌}
-use Rattle.plan_definition.specs.Rules.{injector, is_injector_of}
+use Rattle.plan_definition.specs.Rules.{is_injector_of}
 use Rattle.plan_definition.specs.Well.{wells}
 use Rattle.plan_definition.proofs.Places.{left}
 use Rattle.plan_numbers.specs.Numbers.{has}

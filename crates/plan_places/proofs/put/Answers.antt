@@ -1,7 +1,6 @@
 -- `plan_places::put` meets its contract. The loop's invariant: the places passed are in the entries.
 -- Assumes nothing.
 use mathlib.Core.Path.{◌≡◌, refl}
-use Prim.Native.Nat.{◌-◌}
 use native.Mathlib.Numerals.{add-one}
 use native.Mathlib.Omega.{arith}
 use borrow.Author.Rules.{rules}

@@ -1,9 +1,6 @@
 -- `plan_record::two` meets its contract: the sum of two bytes, the first 256 times.
 -- Assumes nothing.
-use Prim.Native.Nat.{◌+◌, ◌<◌}
 use mathlib.Core.Path.{refl}
-use native.Mathlib.Omega.{arith}
-use lib.ListN.{get_or}
 use Rattle.plan_definition.specs.Well.{two}
 use Rattle.plan_record.proofs.two.Goals as goal
 

@@ -1,7 +1,6 @@
 -- `plan_rules::broken` meets its contract: one of the first four rules, or the tests that led to the return say which is first.
 -- Assumes nothing.
 use mathlib.Core.Path.{◌≡◌, sym, ◌∙◌}
-use borrow.Author.Rules.{rules}
 use Rattle.definition.specs.Refusal.{pick, first_of}
 use Rattle.plan_definition.specs.Rules.{used, unused, breaks_links, breaks_shares, breaks_unused_links, breaks_repeat, rules_by}
 use Rattle.plan_numbers.specs.Numbers.{has}

@@ -1,6 +1,5 @@
 -- The invariants of `plan_rules::unused_breaks`.
 use mathlib.Core.Path.{◌≡◌}
-use mathlib.Core.Bool.{not}
 use Prim.Native.Nat.{◌-◌, ◌≤◌}
 use lib.ListN.{drop}
 use lib.Seq.{slice}

@@ -1,7 +1,6 @@
 -- `reach::clear` meets its contract. The loop's invariant: the first i bytes are zeros.
 -- Assumes nothing.
 use mathlib.Core.Path.{◌≡◌, refl}
-use Prim.Native.Nat.{◌-◌}
 use native.Mathlib.Omega.{arith}
 use lib.ListN.{length, length-set}
 use Rattle.plan_definition.proofs.Filled.{filled_more, filled_all}

@@ -1,7 +1,6 @@
 -- `rounds::absorb` meets its contract. The loop's invariant: the rounds that are left to run from here give the whole.
 -- Assumes nothing.
 use Rattle.std.proofs.Common.{◌<◌, ◌≤◌, length, sym, refl, ap, ◌∙◌, arith, length-drop}
-use Rattle.definition.specs.Padding.{blocks}
 use Rattle.definition.specs.Counted.{counted_chain}
 use Rattle.definition.proofs.Padding.{blocks_none, blocks-cons}
 use Rattle.octets.proofs.Parts.{part_rest}

@@ -1,12 +1,10 @@
 -- `sheet_close_up::gather` meets its contract. The loop's invariant: of the first i records those that stand are gathered.
 -- Assumes nothing.
 use mathlib.Core.Path.{◌≡◌, sym, ap, ◌∙◌}
-use mathlib.Core.Logic.{inl, inr}
 use mathlib.Core.List.{List}
-use Prim.Native.Nat.{ℕ, ◌-◌, ◌*◌, ◌≤◌}
+use Prim.Native.Nat.{ℕ, ◌*◌, ◌≤◌}
 use native.Mathlib.Numerals.{add-one}
 use native.Mathlib.Omega.{arith}
-use borrow.Author.Tests.{not-true, not-false}
 use lib.ListN.{length, take, drop}
 use Rattle.definition.specs.Buffer.{overwrite_at}
 use Rattle.sheet_definition.specs.Sheet.{record_bytes}

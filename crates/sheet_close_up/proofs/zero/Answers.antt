@@ -4,7 +4,6 @@ use mathlib.Core.Path.{◌≡◌, sym, ap, ◌∙◌}
 use Prim.Native.Nat.{ℕ, ◌+◌, ◌-◌, ◌*◌}
 use native.Mathlib.Omega.{arith}
 use lib.ListN.{length, replicate, length-replicate}
-use Rattle.definition.specs.Buffer.{overwrite_at}
 use Rattle.definition.proofs.Buffer.{overwrite_at-none, length-overwrite_at}
 use Rattle.sheet_definition.specs.Sheet.{record_bytes}
 use Rattle.sheet_definition.proofs.Freed.{zeros_more}

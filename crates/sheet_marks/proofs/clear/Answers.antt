@@ -7,7 +7,6 @@ use lib.ListN.{length}
 use Rattle.definition.specs.Block.{words_of, words_of_all}
 use Rattle.definition.specs.State.{five, state_of}
 use Rattle.sheet_definition.specs.Sheet.{q}
-use Rattle.octets.specs.Total.{write_at}
 use Rattle.octets.proofs.Total.{write_none, length-write_at}
 use Rattle.sheet_marks.specs.Total.{cleared}
 use Rattle.sheet_marks.proofs.Total.{cleared_not, cleared_more}

@@ -1,7 +1,7 @@
 -- `sheet_work::work_on` meets its contract. The loop's invariant: what is still to come from mark k is what was to come from mark m.
 -- Assumes nothing.
 use mathlib.Core.Path.{refl, ◌∙◌}
-use Prim.Native.Nat.{◌+◌, ◌-◌}
+use Prim.Native.Nat.{◌+◌}
 use native.Mathlib.Omega.{arith}
 use Rattle.sheet_definition.specs.Sheet.{q}
 use Rattle.sheet_marks.proofs.Total.{read_at, written_at}
