@@ -58,11 +58,12 @@ story: $(PLAN)
 	@workstation/story $(PLAN)
 
 # -z defs: a name that neither the archive nor the C library has is an error here already.
+# Its other name is a hard link: rt takes no checkout with a symbolic one in it.
 $(LUFFA_LIB)/libluffa.so: $(LUFFA_ARCHIVE) luffa.map
 	mkdir -p $(LUFFA_LIB)
 	$(GCC) -shared -Wl,-soname,$(SONAME) -Wl,--version-script,luffa.map -Wl,-z,defs \
 	    -Wl,--whole-archive $(LUFFA_ARCHIVE) -Wl,--no-whole-archive -o $(LUFFA_LIB)/$(SONAME)
-	ln -sf $(SONAME) $@
+	ln -f $(LUFFA_LIB)/$(SONAME) $@
 
 install: all
 	install -d $(addprefix $(DESTDIR)$(PREFIX)/,bin include lib/pkgconfig share/man/man1)
