@@ -33,7 +33,7 @@ all: $(LUFFA_ARCHIVE) $(LUFFA_LIB)/libluffa.so $(LUFFASUM) $(PLAN) $(if $(LIBPQ)
 # that it stands on, crates that don't need each other side by side; `rt lib` would take them one after the other, and here finds them proved. A
 # proof takes up to 3 GB. Each static library is one object: the calls on columns join the archive as a second one, which is linked only where
 # they are called. The first one alone is all that the workstation needs, and is proved before the rest.
-SOURCES := crates.txt $(shell find crates -path '*/src/*.rt')
+SOURCES := crates.txt $(shell find crates/*/src -name '*.rt')
 PROVE := rt all check --jobs $(shell awk -v cores=$$(nproc) '/^MemAvailable/ { n = int($$2 / 3000000) } \
     END { print n < 1 ? 1 : n < cores ? n : cores }' /proc/meminfo)
 FIRST := target/staticlib/first/libluffa.a
