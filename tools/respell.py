@@ -1,6 +1,7 @@
 #!/usr/bin/env python3
-"""Brings the repository's own names to today's spelling, after /opt/rattle/port/port.py: definitions and lemmas in snake case by names.tsv beside
-this file (ported.tsv: what port.py turned), the crate `bytes` as `octets` (Rattle has a library bytes), and the paths and words of must-fail edits and pages as port.py writes them.
+"""Brings the repository's own names to today's spelling, after the kit's port.py (port/ beside the page that `rt doc` names): definitions and
+lemmas in snake case by names.tsv beside this file (ported.tsv: what port.py turned), the crate `bytes` as `octets` (Rattle has a library bytes),
+and the paths and words of must-fail edits and pages as port.py writes them.
 usage: tools/respell.py, once, at the top, on what port.py made."""
 import glob
 import os
