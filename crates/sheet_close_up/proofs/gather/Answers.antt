@@ -9,7 +9,7 @@ use lib.ListN.{length, take, drop}
 use Rattle.definition.specs.Buffer.{overwrite_at}
 use Rattle.sheet_definition.specs.Sheet.{record_bytes}
 use Rattle.sheet_definition.specs.Struck.{all_zero}
-use Rattle.sheet_close_up.proofs.Moved.{part_size, none_gathered, few, sheet-size, places-size, next-record, passed, moved}
+use Rattle.sheet_close_up.proofs.Moved.{part_size, Gathered, none_gathered, few, sheet-size, places-size, next-record, passed, moved}
 use Rattle.sheet_close_up.proofs.gather.Goals as goal
 use Rattle.sheet_close_up.proofs.gather.Goals.{then-not-zeros, else-not-zeros}
 
@@ -19,44 +19,12 @@ loop-i-init c =
     (omega arith, p.0, p.1, p.2, none_gathered c.args.sheet.now c.args.places.now)
 
 -- so many have been moved as were seen at most, and the buffers keep their lengths
-known : (c : goal.In-loop-i) → let l = c.loop-i in let a = c.args in
-    (l.count ≤ l.i) × (length l.sheet ≡ length a.sheet.now) × (length l.places ≡ length a.places.now)
-known c =
-    let l = c.loop-i in
-    let v = l.invariant in
-    let r : record_bytes * l.i ≤ length c.args.sheet.now = omega (arith, v.0, v.2) in
-    let p : l.i ≤ length c.args.places.now = omega (arith, v.0, v.3) in
-    (few _ _ _ _ _ _ r p v.4, sheet-size _ _ _ _ _ _ r p v.4, places-size _ _ _ _ _ _ r p v.4)
-
--- so many have been moved as were seen at most, and the buffers keep their lengths
-known-2 : (c : goal.After-move_record-arg-1) → let l = c.loop-i in let a = c.args in
-    (l.count ≤ l.i) × (length l.sheet ≡ length a.sheet.now) × (length l.places ≡ length a.places.now)
-known-2 c =
-    let l = c.loop-i in
-    let v = l.invariant in
-    let r : record_bytes * l.i ≤ length c.args.sheet.now = omega (arith, v.0, v.2) in
-    let p : l.i ≤ length c.args.places.now = omega (arith, v.0, v.3) in
-    (few _ _ _ _ _ _ r p v.4, sheet-size _ _ _ _ _ _ r p v.4, places-size _ _ _ _ _ _ r p v.4)
-
--- so many have been moved as were seen at most, and the buffers keep their lengths
-known-3 : (c : goal.After-slice_known-then-not-zeros-1) → let l = c.loop-i in let a = c.args in
-    (l.count ≤ l.i) × (length l.sheet ≡ length a.sheet.now) × (length l.places ≡ length a.places.now)
-known-3 c =
-    let l = c.loop-i in
-    let v = l.invariant in
-    let r : record_bytes * l.i ≤ length c.args.sheet.now = omega (arith, v.0, v.2) in
-    let p : l.i ≤ length c.args.places.now = omega (arith, v.0, v.3) in
-    (few _ _ _ _ _ _ r p v.4, sheet-size _ _ _ _ _ _ r p v.4, places-size _ _ _ _ _ _ r p v.4)
-
--- so many have been moved as were seen at most, and the buffers keep their lengths
-known-4 : (c : goal.After-loop-i) → let l = c.loop-i in let a = c.args in
-    (l.count ≤ l.i) × (length l.sheet ≡ length a.sheet.now) × (length l.places ≡ length a.places.now)
-known-4 c =
-    let l = c.loop-i in
-    let v = l.invariant in
-    let r : record_bytes * l.i ≤ length c.args.sheet.now = omega (arith, v.0, v.2) in
-    let p : l.i ≤ length c.args.places.now = omega (arith, v.0, v.3) in
-    (few _ _ _ _ _ _ r p v.4, sheet-size _ _ _ _ _ _ r p v.4, places-size _ _ _ _ _ _ r p v.4)
+known : {n i count : ℕ} {sheet₀ places₀ sheet places : List ℕ} → i ≤ n → record_bytes * n ≤ length sheet₀ → n ≤ length places₀
+    → Gathered sheet₀ places₀ i sheet places count → (count ≤ i) × (length sheet ≡ length sheet₀) × (length places ≡ length places₀)
+known {i} {sheet₀} {places₀} h room list g =
+    let r : record_bytes * i ≤ length sheet₀ = omega (arith, h, room) in
+    let p : i ≤ length places₀ = omega (arith, h, list) in
+    (few _ _ _ _ _ _ r p g, sheet-size _ _ _ _ _ _ r p g, places-size _ _ _ _ _ _ r p g)
 
 -- what was asked of the record at the place is asked of the sheet as it was lent
 asked : (c : goal.Joined-not-zeros) →
@@ -97,28 +65,29 @@ returns c =
 
 pub slice_bounds-zeros-end : goal.slice_bounds-zeros-end
 slice_bounds-zeros-end c =
-    omega (arith, known c)
+    let v = c.loop-i.invariant in omega (arith, known v.0 v.2 v.3 v.4)
 
 pub move_record-requires : goal.move_record-requires
 move_record-requires c =
-    (omega (arith, known-2 c), (known-2 c).0)
+    let v = c.loop-i.invariant in
+    let k = known v.0 v.2 v.3 v.4 in (omega (arith, k), k.0)
 
 pub offset_bounds-places-count : goal.offset_bounds-places-count
 offset_bounds-places-count c =
-    omega (arith, known-3 c)
+    let v = c.loop-i.invariant in omega (arith, known v.0 v.2 v.3 v.4)
 
 pub shape_of-sheet : goal.shape_of-sheet
 shape_of-sheet c =
-    (known-4 c).1
+    let v = c.loop-i.invariant in (known v.0 v.2 v.3 v.4).1
 
 pub shape_of-places : goal.shape_of-places
 shape_of-places c =
-    (known-4 c).2
+    let v = c.loop-i.invariant in (known v.0 v.2 v.3 v.4).2
 
 pub bounds-places-count : goal.bounds-places-count
 bounds-places-count c =
-    omega (arith, known-3 c)
+    let v = c.loop-i.invariant in omega (arith, known v.0 v.2 v.3 v.4)
 
 pub overflow_add-count : goal.overflow_add-count
 overflow_add-count c =
-    omega (arith, known-3 c)
+    let v = c.loop-i.invariant in omega (arith, known v.0 v.2 v.3 v.4)
