@@ -1,59 +1,45 @@
 -- `columns::to_words` meets its contract: past its refusals the words of the dump are written.
 -- Assumes nothing.
 use mathlib.Core.Path.{◌≡◌, ap, ◌∙◌}
+use mathlib.Core.List.{[], ◌∷◌}
+use Prim.Native.Nat.{ℕ, ◌*◌}
 use native.Mathlib.Omega.{arith}
-use lib.ListN.{length}
-use Rattle.definition.specs.Refusal.{first_of}
-use Rattle.definition.specs.Width.{width_at}
+use Rattle.definition.specs.declared.Width.{Width}
+use Rattle.definition.specs.Refusal.{first_of, width_refusal}
+use Rattle.definition.specs.Width.{width_at, block_count}
 use Rattle.definition.proofs.Chain.{count_le}
 use Rattle.hash_definition.specs.Said.{done}
 use Rattle.hash_definition.proofs.Refused.{refused, accepted}
-use Rattle.columns_definition.specs.Columns.{blocks_at, words_refusals, to_words_outcome}
+use Rattle.columns_definition.specs.Columns.{blocks_at, columns_refusal, words_refusals, to_words_outcome}
 use Rattle.columns_definition.proofs.Calls.{due}
 use Rattle.columns.proofs.to_words.Goals as goal
 
-count : (c : goal.After-put_blocks-arg-1) → c.count-n.result ≡ blocks_at c.args.code
-unfolding blocks_at
-count c = rw c.width.ensures at c.count-n.ensures
+-- of a call at a code's w and so many blocks
+module _ (code : ℕ) {w : Width} {n : ℕ} (k : w ≡ width_at code) (e : n ≡ block_count w) where
+  count : n ≡ blocks_at code
+  unfolding blocks_at
+  count = rw k at e
 
-count-2 : (c : goal.After-slice_known-2-1) → c.count-n.result ≡ blocks_at c.args.code
-unfolding blocks_at
-count-2 c = rw c.width.ensures at c.count-n.ensures
-
-count-3 : (c : goal.Then-number-ne-DONE) → c.count-n.result ≡ blocks_at c.args.code
-unfolding blocks_at
-count-3 c = rw c.width.ensures at c.count-n.ensures
-
-judged : (c : goal.Then-number-ne-DONE)
-    → c.refusal-number.result ≡ first_of (words_refusals c.args.code (length c.args.dump.now) (length c.args.words.now))
-unfolding words_refusals
-judged c = rw (count-3 c) at c.refusal-number.ensures
-
-judged-2 : (c : goal.After-put_blocks-arg-1)
-    → c.refusal-number.result ≡ first_of (words_refusals c.args.code (length c.args.dump.now) (length c.args.words.now))
-unfolding words_refusals
-judged-2 c = rw (count c) at c.refusal-number.ensures
-
-judged-3 : (c : goal.After-slice_known-2-1)
-    → c.refusal-number.result ≡ first_of (words_refusals c.args.code (length c.args.dump.now) (length c.args.words.now))
-unfolding words_refusals
-judged-3 c = rw (count-2 c) at c.refusal-number.ensures
+  -- its number is that of its refusals
+  judged : {number : ℕ} (d l : ℕ) → number ≡ first_of (width_refusal code ∷ columns_refusal d (32 * blocks_at code) l (8 * n) ∷ []) → number ≡ first_of (words_refusals code d l)
+  unfolding words_refusals
+  judged d l f = rw count at f
 
 pub returns-then-number-ne-DONE : goal.returns-then-number-ne-DONE
 unfolding to_words_outcome
-returns-then-number-ne-DONE c = refused _ (judged c) _ _ c.if-number-ne-DONE.true
+returns-then-number-ne-DONE c = refused _ (judged _ c.width.ensures c.count-n.ensures _ _ c.refusal-number.ensures) _ _ c.if-number-ne-DONE.true
 
 pub put_blocks-requires : goal.put_blocks-requires
 unfolding words_refusals blocks_at
 put_blocks-requires c =
     let a = c.args in
-    let d = due a.code _ _ _ _ (rw (judged-2 c) at c.if-number-ne-DONE.false) in
-    rw (count c) (count_le (width_at a.code), d.1, d.2)
+    let d = due a.code _ _ _ _ (rw (judged _ c.width.ensures c.count-n.ensures _ _ c.refusal-number.ensures) at c.if-number-ne-DONE.false) in
+    rw (count _ c.width.ensures c.count-n.ensures) (count_le (width_at a.code), d.1, d.2)
 
 pub returns : goal.returns
 unfolding to_words_outcome
 returns c =
-    ap done (rw (count-2 c) at c.put_blocks.ensures) ∙ accepted _ (judged-3 c) _ _ c.if-number-ne-DONE.false
+    ap done (rw (count _ c.width.ensures c.count-n.ensures) at c.put_blocks.ensures) ∙ accepted _ (judged _ c.width.ensures c.count-n.ensures _ _ c.refusal-number.ensures) _ _ c.if-number-ne-DONE.false
 
 pub overflow_mul-n : goal.overflow_mul-n
 overflow_mul-n c = rw c.count-n.ensures (omega (arith, count_le c.width.result))
