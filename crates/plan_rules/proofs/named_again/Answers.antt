@@ -1,8 +1,9 @@
 -- `plan_rules::named_again` meets its contract. The loop's invariant: what is left decides.
 -- Assumes nothing.
 use mathlib.Core.Path.{◌≡◌, refl, sym, ◌∙◌}
-use mathlib.Core.Bool.{◌||◌}
-use Prim.Native.Nat.{suc}
+use mathlib.Core.Bool.{Bool, ◌||◌}
+use mathlib.Core.List.{List}
+use Prim.Native.Nat.{ℕ, suc, ◌<◌, ◌≤◌}
 use native.Mathlib.Numerals.{add-one}
 use native.Mathlib.Omega.{arith}
 use borrow.Author.Rules.{rules}
@@ -10,6 +11,7 @@ use borrow.Author.Tests.{eq-eqb, ne_eqb}
 use lib.Dec.{eqb}
 use lib.ListN.{length, get_or}
 use lib.Seq.{slice}
+use Rattle.plan_definition.specs.declared.Link.{Link}
 use Rattle.plan_definition.specs.Some.{some}
 use Rattle.plan_definition.specs.Well.{no_link}
 use Rattle.plan_definition.specs.Rules.{names_same}
@@ -19,42 +21,25 @@ use Rattle.plan_rules.proofs.named_again.Goals as goal
 pub loop-j-init : goal.loop-j-init
 loop-j-init c = (c.requires.0, refl)
 
-four : (s : goal.Then-m-l) → length s.args.links ≡ 4
-four s = search rules
-
-four-2 : (s : goal.Else-m-l) → length s.args.links ≡ 4
-four-2 s = search rules
-
 -- the next link names the injector, or one after it does
-left : (c : goal.Then-m-l) →
-    let a = c.args in
-    let j = c.loop-j.j in
-    eqb (get_or a.links j no_link).injector a.l.injector || some (names_same a.l) (slice (suc j) a.count a.links)
-    ≡ some (names_same a.l) (slice a.k a.count a.links)
+left : {b : Bool} (l : Link) (j t : ℕ) (ls : List Link) → length ls ≡ 4 → j < t → t ≤ 4 → some (names_same l) (slice j t ls) ≡ b
+    → eqb (get_or ls j no_link).injector l.injector || some (names_same l) (slice (suc j) t ls) ≡ b
 unfolding names_same
-left c =
-    let a = c.args in
-    let l = c.loop-j in
-    sym (some_left (names_same a.l) l.j a.count a.links (omega arith) (rw (four c) (omega arith))) ∙ l.invariant.1
-
--- the next link names the injector, or one after it does
-left-2 : (c : goal.Else-m-l) →
-    let a = c.args in
-    let j = c.loop-j.j in
-    eqb (get_or a.links j no_link).injector a.l.injector || some (names_same a.l) (slice (suc j) a.count a.links)
-    ≡ some (names_same a.l) (slice a.k a.count a.links)
-unfolding names_same
-left-2 c =
-    let a = c.args in
-    let l = c.loop-j in
-    sym (some_left (names_same a.l) l.j a.count a.links (omega arith) (rw (four-2 c) (omega arith))) ∙ l.invariant.1
+left l j t ls four h g e = sym (some_left (names_same l) j t ls h (rw four g)) ∙ e
 
 pub returns-then-m-l : goal.returns-then-m-l
-returns-then-m-l c = rw (eq-eqb _ _ c.if-m-l.true) at (left c)
+returns-then-m-l c =
+    let a = c.args in
+    let l = c.loop-j in
+    rw (eq-eqb _ _ c.if-m-l.true) at (left a.l l.j a.count a.links (search rules) (omega arith) (omega arith) l.invariant.1)
 
 pub loop-j-preserved : goal.loop-j-preserved
 loop-j-preserved c =
-    (omega arith, rw (add-one c.loop-j.j) (rw (ne_eqb _ _ c.if-m-l.false) at (left-2 c)))
+    let a = c.args in
+    let l = c.loop-j in (
+      omega arith,
+      rw (add-one l.j) (rw (ne_eqb _ _ c.if-m-l.false) at (left a.l l.j a.count a.links (search rules) (omega arith) (omega arith) l.invariant.1)),
+    )
 
 pub returns : goal.returns
 unfolding some
