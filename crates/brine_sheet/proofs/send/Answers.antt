@@ -1,7 +1,8 @@
 -- `brine_sheet::send` meets its contract. The loop's invariant: what is there and what is left to bring are the whole.
 -- Assumes nothing.
 use mathlib.Core.Path.{◌≡◌, refl, ◌∙◌}
-use Prim.Native.Nat.{ℕ, suc, ◌+◌, ◌*◌, ◌^◌, ◌<◌}
+use mathlib.Core.List.{List}
+use Prim.Native.Nat.{ℕ, suc, ◌+◌, ◌*◌, ◌^◌, ◌<◌, ◌≤◌}
 use native.Mathlib.Numerals.{add-one}
 use native.Mathlib.Omega.{arith}
 use borrow.Author.Rules.{rules}
@@ -10,6 +11,7 @@ use lib.Dec.{eqb}
 use lib.ListN.{length, get_or, length-set}
 use lib.Seq.{slice, slice_empty, length-slice, get_or-take}
 use Rattle.definition.specs.Refusal.{pick}
+use Rattle.plan_definition.specs.declared.Link.{Link}
 use Rattle.plan_definition.specs.Well.{no_link}
 use Rattle.plan_definition.proofs.Some.{at_index}
 use Rattle.brine_sheet.specs.Sent.{Named, brought_to, Added, Takes}
@@ -19,48 +21,18 @@ use Rattle.brine_sheet.proofs.send.Goals as goal
 pub loop-k-init : goal.loop-k-init
 loop-k-init c = (omega arith, refl, λ q. refl)
 
-four : (s : goal.After-struct_known-1) → length s.args.links ≡ 4
-four s = search rules
-
-four-2 : (s : goal.After-at-p) → length s.args.links ≡ 4
-four-2 s = search rules
-
-four-3 : (s : goal.After-slice_known-in-loop-k-1-unread) → length s.args.links ≡ 4
-four-3 s = search rules
-
 -- the kilograms that the next link brings
 abbrev kilograms : goal.After-struct_known-1 → ℕ
 kilograms c = c.args.rate * (get_or c.args.links c.loop-k.k no_link).share
 
--- it leads to a place of the list
-below : (c : goal.After-struct_known-1) → c.at-p.result < length c.loop-k.intake
+-- a link that is used leads to a place of the list
+below : (t : List ℕ) (links : List Link) (count k m : ℕ) {l p : ℕ} → length links ≡ 4 → count ≤ 4 → k < count
+    → Named t m (slice 0 count links) → l ≡ m → p ≡ get_or t (get_or links k no_link).injector 0 → p < l
 unfolding Named
-below c =
-    let l = c.loop-k in
-    let a = c.args in
-    let there = length-slice 0 a.count a.links (omega (arith, four c, c.requires.0)) in
-    let named = c.requires.1 _ (at_index (slice 0 a.count a.links) l.k no_link (omega arith)) in
-    rw (c.at-p.ensures, l.invariant.1, ← get_or-take a.count a.links l.k no_link (omega arith)) named
-
--- it leads to a place of the list
-below-2 : (c : goal.After-at-p) → c.at-p.result < length c.loop-k.intake
-unfolding Named
-below-2 c =
-    let l = c.loop-k in
-    let a = c.args in
-    let there = length-slice 0 a.count a.links (omega (arith, four-2 c, c.requires.0)) in
-    let named = c.requires.1 _ (at_index (slice 0 a.count a.links) l.k no_link (omega arith)) in
-    rw (c.at-p.ensures, l.invariant.1, ← get_or-take a.count a.links l.k no_link (omega arith)) named
-
--- it leads to a place of the list
-below-3 : (c : goal.After-slice_known-in-loop-k-1-unread) → c.at-p.result < length c.loop-k.intake
-unfolding Named
-below-3 c =
-    let l = c.loop-k in
-    let a = c.args in
-    let there = length-slice 0 a.count a.links (omega (arith, four-3 c, c.requires.0)) in
-    let named = c.requires.1 _ (at_index (slice 0 a.count a.links) l.k no_link (omega arith)) in
-    rw (c.at-p.ensures, l.invariant.1, ← get_or-take a.count a.links l.k no_link (omega arith)) named
+below t links count k m four few h names same e =
+    let there = length-slice 0 count links (omega (arith, four, few)) in
+    let named = names _ (at_index (slice 0 count links) k no_link (omega arith)) in
+    rw (e, same, ← get_or-take count links k no_link h) named
 
 -- what is there, what the link brings and what the links after it bring are the whole
 step : (c : goal.After-struct_known-1) (q : ℕ) →
@@ -72,7 +44,8 @@ step : (c : goal.After-struct_known-1) (q : ℕ) →
 step c q =
     let l = c.loop-k in
     let a = c.args in
-    let left = brought_left a.places.now a.rate l.k a.count a.links q (omega arith) (omega (arith, four c, c.requires.0)) in
+    let four : length a.links ≡ 4 = search rules in
+    let left = brought_left a.places.now a.rate l.k a.count a.links q (omega arith) (omega (arith, four, c.requires.0)) in
     rw (c.at-p.ensures, ← left) (l.invariant.2 q)
 
 -- so no sum passes 64 bits
@@ -80,7 +53,7 @@ fits : (c : goal.After-struct_known-1) → get_or c.loop-k.intake c.at-p.result 
 unfolding Takes pick
 fits c =
     let p = c.at-p.result in
-    let whole = c.requires.2 p (rw (← c.loop-k.invariant.1) (below c)) in
+    let whole = c.requires.2 p (rw (← c.loop-k.invariant.1) (below _ c.args.links _ _ _ (search rules) c.requires.0 (omega arith) c.requires.1 c.loop-k.invariant.1 c.at-p.ensures)) in
     omega (arith, whole, rw (eq-eqb p p refl) at (step c p))
 
 pub loop-k-preserved : goal.loop-k-preserved
@@ -88,7 +61,7 @@ loop-k-preserved c =
     let l = c.loop-k in (
       omega arith,
       length-set l.intake c.at-p.result _ ∙ l.invariant.1,
-      λ q. rw (add-one l.k) (omega (arith, step c q, put_more l.intake c.at-p.result (kilograms c) q (below c))),
+      λ q. rw (add-one l.k) (omega (arith, step c q, put_more l.intake c.at-p.result (kilograms c) q (below _ c.args.links _ _ _ (search rules) c.requires.0 (omega arith) c.requires.1 c.loop-k.invariant.1 c.at-p.ensures))),
     )
 
 pub returns : goal.returns
@@ -101,11 +74,11 @@ returns c =
 
 pub offset_bounds-intake-p : goal.offset_bounds-intake-p
 offset_bounds-intake-p c =
-    omega (arith, below-2 c)
+    omega (arith, below _ c.args.links _ _ _ (search rules) c.requires.0 (omega arith) c.requires.1 c.loop-k.invariant.1 c.at-p.ensures)
 
 pub bounds-intake-p : goal.bounds-intake-p
 bounds-intake-p c =
-    below-3 c
+    below _ c.args.links _ _ _ (search rules) c.requires.0 (omega arith) c.requires.1 c.loop-k.invariant.1 c.at-p.ensures
 
 pub overflow_mul-intake : goal.overflow_mul-intake
 overflow_mul-intake c =
@@ -113,11 +86,11 @@ overflow_mul-intake c =
 
 pub offset_bounds-intake-p-in-loop-k : goal.offset_bounds-intake-p-in-loop-k
 offset_bounds-intake-p-in-loop-k c =
-    omega (arith, below c)
+    omega (arith, below _ c.args.links _ _ _ (search rules) c.requires.0 (omega arith) c.requires.1 c.loop-k.invariant.1 c.at-p.ensures)
 
 pub bounds-intake-p-in-loop-k : goal.bounds-intake-p-in-loop-k
 bounds-intake-p-in-loop-k c =
-    below c
+    below _ c.args.links _ _ _ (search rules) c.requires.0 (omega arith) c.requires.1 c.loop-k.invariant.1 c.at-p.ensures
 
 pub shape_of-intake : goal.shape_of-intake
 shape_of-intake c =

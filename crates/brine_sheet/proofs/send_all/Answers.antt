@@ -1,14 +1,14 @@
 -- `brine_sheet::send_all` meets its contract. The loop's invariant: what is there and what the wells left send are the whole.
 -- Assumes nothing.
 use mathlib.Core.Path.{◌≡◌, refl, ◌∙◌}
-use mathlib.Core.List.{◌∷◌}
-use Prim.Native.Nat.{ℕ, suc, ◌+◌, ◌≤◌}
+use mathlib.Core.List.{List, ◌∷◌}
+use Prim.Native.Nat.{ℕ, suc, ◌+◌, ◌<◌, ◌≤◌}
 use native.Mathlib.Numerals.{add-one}
 use native.Mathlib.Omega.{arith}
-use lib.ListN.{length, get_or}
+use lib.ListN.{length}
 use lib.Seq.{slice}
+use Rattle.plan_definition.specs.declared.Well.{Well}
 use Rattle.plan_definition.specs.Rules.{used}
-use Rattle.plan_definition.specs.Well.{wells}
 use Rattle.plan_definition.proofs.Places.{well_at, left, left_all, left_step, left_none, wells_at}
 use Rattle.plan_record.proofs.Total.{well_read}
 use Rattle.brine_sheet.specs.Sent.{Named, AllNamed, brought_to, sent_to, Added, Takes}
@@ -21,35 +21,10 @@ loop-i-init c =
     let a = c.args in
     (omega arith, refl, λ q. rw (left_all a.n a.sheet.now))
 
--- the well that is read is the one at the place
-read : (c : goal.After-send-arg-1) → c.read-w.result ≡ well_at c.loop-i.i c.args.sheet.now
-read c = c.read-w.ensures ∙ well_read _ _ (omega arith)
-
--- the well that is read is the one at the place
-read-2 : (c : goal.Joined-w-eq-PRODUCER) → c.read-w.result ≡ well_at c.loop-i.i c.args.sheet.now
-read-2 c = c.read-w.ensures ∙ well_read _ _ (omega arith)
-
--- what is there, what the well sends and what those after it send are the whole
-step : (c : goal.Joined-w-eq-PRODUCER) (q : ℕ) →
-    let a = c.args in
-    let l = c.loop-i in
-    get_or l.intake q 0 + sent_to a.places.now (c.read-w.result ∷ left (suc l.i) a.n a.sheet.now) q
-    ≡ get_or a.intake.now q 0 + sent_to a.places.now (wells a.n a.sheet.now) q
-step c q =
-    let a = c.args in
-    let l = c.loop-i in
-    rw (read-2 c) (rw (left_step a.n a.sheet.now l.i (omega arith)) at (l.invariant.2 q))
-
--- what is there, what the well sends and what those after it send are the whole
-step-2 : (c : goal.After-send-arg-1) (q : ℕ) →
-    let a = c.args in
-    let l = c.loop-i in
-    get_or l.intake q 0 + sent_to a.places.now (c.read-w.result ∷ left (suc l.i) a.n a.sheet.now) q
-    ≡ get_or a.intake.now q 0 + sent_to a.places.now (wells a.n a.sheet.now) q
-step-2 c q =
-    let a = c.args in
-    let l = c.loop-i in
-    rw (read c) (rw (left_step a.n a.sheet.now l.i (omega arith)) at (l.invariant.2 q))
+-- what is there, what the well that is read sends and what those after it send are the whole
+step : (n : ℕ) (sheet t : List ℕ) (i q x m : ℕ) {w : Well} → w ≡ well_at i sheet → i < n → x + sent_to t (left i n sheet) q ≡ m
+    → x + sent_to t (w ∷ left (suc i) n sheet) q ≡ m
+step n sheet t i q x m r h e = rw r (rw (left_step n sheet i h) at e)
 
 -- a producer's links are few and lead to places of the list
 named : (c : goal.After-send-arg-1) → c.read-w.result.kind ≡ 1 →
@@ -59,7 +34,7 @@ unfolding AllNamed used
 named c e =
     let a = c.args in
     let l = c.loop-i in
-    rw l.invariant.1 (c.requires.1 c.read-w.result ((wells_at a.n a.sheet.now _).1 (l.i, omega arith, read c)) e)
+    rw l.invariant.1 (c.requires.1 c.read-w.result ((wells_at a.n a.sheet.now _).1 (l.i, omega arith, c.read-w.ensures ∙ well_read _ _ (omega arith))) e)
 
 -- and the list can take what they bring
 takes : (c : goal.After-send-arg-1) → c.read-w.result.kind ≡ 1 →
@@ -69,7 +44,7 @@ unfolding Takes
 takes c e q h =
     let l = c.loop-i in
     let ws = left (suc l.i) c.args.n c.args.sheet.now in
-    omega (arith, c.requires.2 q (rw (← l.invariant.1) h), step-2 c q, sent_producer c.args.places.now c.read-w.result ws q e)
+    omega (arith, c.requires.2 q (rw (← l.invariant.1) h), step _ _ _ _ q _ _ (c.read-w.ensures ∙ well_read _ _ (omega arith)) (omega arith) (l.invariant.2 q), sent_producer c.args.places.now c.read-w.result ws q e)
 
 pub send-requires : goal.send-requires
 send-requires c =
@@ -89,8 +64,8 @@ loop-i-preserved c =
         | else-w-eq-PRODUCER s ↦ rw s.intake-is l.invariant.1
       ],
       λ q. rw (add-one l.i) (elim c.if-w-eq-PRODUCER.branch [
-        | then-w-eq-PRODUCER s ↦ rw s.intake-is (omega (arith, step c q, s.send.ensures q, sent_producer a.places.now w ws q (omega (arith, s.if-w-eq-PRODUCER.true))))
-        | else-w-eq-PRODUCER s ↦ rw s.intake-is (omega (arith, step c q, sent_other a.places.now w ws q (λ e. omega (arith, s.if-w-eq-PRODUCER.false))))
+        | then-w-eq-PRODUCER s ↦ rw s.intake-is (omega (arith, step _ _ _ _ q _ _ (c.read-w.ensures ∙ well_read _ _ (omega arith)) (omega arith) (l.invariant.2 q), s.send.ensures q, sent_producer a.places.now w ws q (omega (arith, s.if-w-eq-PRODUCER.true))))
+        | else-w-eq-PRODUCER s ↦ rw s.intake-is (omega (arith, step _ _ _ _ q _ _ (c.read-w.ensures ∙ well_read _ _ (omega arith)) (omega arith) (l.invariant.2 q), sent_other a.places.now w ws q (λ e. omega (arith, s.if-w-eq-PRODUCER.false))))
       ]),
     )
 

@@ -2,7 +2,7 @@
 -- Assumes nothing.
 use mathlib.Core.Path.{◌≡◌, sym, ◌∙◌, ap}
 use mathlib.Core.List.{List, [], append-nil}
-use Prim.Native.Nat.{suc, ◌+◌, ◌<◌, ◌≤◌}
+use Prim.Native.Nat.{ℕ, suc, ◌+◌, ◌<◌, ◌≤◌}
 use native.Mathlib.Numerals.{add-one}
 use native.Mathlib.Omega.{arith}
 use lib.ListN.{length, get_or, drop, length-set}
@@ -28,101 +28,22 @@ loop-i-init c =
     let e = rows_all c.args.n c.args.sheet.now in
     (omega arith, omega arith, c.requires.1, rw e c.requires.3, omega arith, rw e (omega arith), rw e)
 
--- the row at the place, and the rows after it
+-- the row at the place
 abbrev row : goal.After-below_zero-overloaded → Row
 row c = row_at c.args.n c.loop-i.i c.args.sheet.now
 
--- the row at the place, and the rows after it
-abbrev row-2 : goal.After-shared_slice_known-in-loop-i-1-unread → Row
-row-2 c = row_at c.args.n c.loop-i.i c.args.sheet.now
-
--- the row at the place, and the rows after it
-abbrev row-3 : goal.After-shared_slice_known-in-loop-i-1 → Row
-row-3 c = row_at c.args.n c.loop-i.i c.args.sheet.now
-
--- the row at the place, and the rows after it
-abbrev row-4 : goal.After-spare_of-s → Row
-row-4 c = row_at c.args.n c.loop-i.i c.args.sheet.now
-
-abbrev after : goal.After-below_zero-overloaded → List Row
-after c = rows_left (suc c.loop-i.i) c.args.n c.args.sheet.now
-
-abbrev after-2 : goal.After-shared_slice_known-in-loop-i-1-unread → List Row
-after-2 c = rows_left (suc c.loop-i.i) c.args.n c.args.sheet.now
-
-abbrev after-3 : goal.After-shared_slice_known-in-loop-i-1 → List Row
-after-3 c = rows_left (suc c.loop-i.i) c.args.n c.args.sheet.now
-
-abbrev after-4 : goal.After-spare_of-s → List Row
-after-4 c = rows_left (suc c.loop-i.i) c.args.n c.args.sheet.now
-
 -- the intake that is read is the row's, and those after it are the other rows'
-intake_is : (c : goal.After-below_zero-overloaded) →
-    let intake = c.args.intake.now in
-    let i = c.loop-i.i in
-    (i < length intake) × (get_or intake i 0 ≡ (row c).intake) × (drop (suc i) intake ≡ intakes (after c))
+intake_is : (n : ℕ) (sheet intake : List ℕ) (i : ℕ) → i < n → drop i intake ≡ intakes (rows_left i n sheet) →
+    (i < length intake) × (get_or intake i 0 ≡ (row_at n i sheet).intake) × (drop (suc i) intake ≡ intakes (rows_left (suc i) n sheet))
 unfolding intakes
-intake_is c =
-    let l = c.loop-i in
-    next c.args.intake.now l.i (row c).intake 0 (intakes (after c))
-    (l.invariant.3 ∙ ap intakes (rows_step c.args.n c.args.sheet.now l.i (omega arith)))
-
--- the intake that is read is the row's, and those after it are the other rows'
-intake_is-2 : (c : goal.After-shared_slice_known-in-loop-i-1-unread) →
-    let intake = c.args.intake.now in
-    let i = c.loop-i.i in
-    (i < length intake) × (get_or intake i 0 ≡ (row-2 c).intake) × (drop (suc i) intake ≡ intakes (after-2 c))
-unfolding intakes
-intake_is-2 c =
-    let l = c.loop-i in
-    next c.args.intake.now l.i (row-2 c).intake 0 (intakes (after-2 c))
-    (l.invariant.3 ∙ ap intakes (rows_step c.args.n c.args.sheet.now l.i (omega arith)))
-
--- the intake that is read is the row's, and those after it are the other rows'
-intake_is-3 : (c : goal.After-shared_slice_known-in-loop-i-1) →
-    let intake = c.args.intake.now in
-    let i = c.loop-i.i in
-    (i < length intake) × (get_or intake i 0 ≡ (row-3 c).intake) × (drop (suc i) intake ≡ intakes (after-3 c))
-unfolding intakes
-intake_is-3 c =
-    let l = c.loop-i in
-    next c.args.intake.now l.i (row-3 c).intake 0 (intakes (after-3 c))
-    (l.invariant.3 ∙ ap intakes (rows_step c.args.n c.args.sheet.now l.i (omega arith)))
-
--- the intake that is read is the row's, and those after it are the other rows'
-intake_is-4 : (c : goal.After-spare_of-s) →
-    let intake = c.args.intake.now in
-    let i = c.loop-i.i in
-    (i < length intake) × (get_or intake i 0 ≡ (row-4 c).intake) × (drop (suc i) intake ≡ intakes (after-4 c))
-unfolding intakes
-intake_is-4 c =
-    let l = c.loop-i in
-    next c.args.intake.now l.i (row-4 c).intake 0 (intakes (after-4 c))
-    (l.invariant.3 ∙ ap intakes (rows_step c.args.n c.args.sheet.now l.i (omega arith)))
+intake_is n sheet intake i h e =
+    next intake i (row_at n i sheet).intake 0 (intakes (rows_left (suc i) n sheet)) (e ∙ ap intakes (rows_step n sheet i h))
 
 -- it is part of the total
-total_left : (c : goal.After-below_zero-overloaded) →
-    let intake = c.args.intake.now in
-    let l = c.loop-i in
-    l.total + (get_or intake l.i 0 + sum (drop (suc l.i) intake)) ≡ sum intake
+total_left : (n : ℕ) (sheet intake : List ℕ) (i t : ℕ) → i < n → drop i intake ≡ intakes (rows_left i n sheet)
+    → t + sum (drop i intake) ≡ sum intake → t + (get_or intake i 0 + sum (drop (suc i) intake)) ≡ sum intake
 unfolding sum
-total_left c = rw (drop-cons c.args.intake.now c.loop-i.i 0 (intake_is c).0) at c.loop-i.invariant.4
-
--- it is part of the total
-total_left-2 : (c : goal.After-shared_slice_known-in-loop-i-1) →
-    let intake = c.args.intake.now in
-    let l = c.loop-i in
-    l.total + (get_or intake l.i 0 + sum (drop (suc l.i) intake)) ≡ sum intake
-unfolding sum
-total_left-2 c = rw (drop-cons c.args.intake.now c.loop-i.i 0 (intake_is-3 c).0) at c.loop-i.invariant.4
-
--- it is part of the total
-total_left-3 : (c : goal.After-spare_of-s) →
-    let intake = c.args.intake.now in
-    let l = c.loop-i in
-    l.total + (get_or intake l.i 0 + sum (drop (suc l.i) intake)) ≡ sum intake
-unfolding sum
-total_left-3 c = rw (drop-cons c.args.intake.now c.loop-i.i 0 (intake_is-4 c).0) at c.loop-i.invariant.4
+total_left n sheet intake i t h e s = rw (drop-cons intake i 0 (intake_is n sheet intake i h e).0) at s
 
 -- the spare, read back from its bits, is the row's
 spare_is : (c : goal.After-below_zero-overloaded) → to_z w64 (of_z w64 c.spare_of-s.result) ≡ (row c).spare
@@ -132,7 +53,7 @@ spare_is c =
     let read : c.read-w.result ≡ well_at i sheet = c.read-w.ensures ∙ well_read sheet i (omega arith) in
     to_z-of_z {w = w64} (record { sfits = c.spare_of-s.type_inv })
     ∙ (rw read at c.spare_of-s.ensures)
-    ∙ spare_in (wells c.args.n sheet) c.requires.2 (well_at i sheet) _ (intake_is c).1
+    ∙ spare_in (wells c.args.n sheet) c.requires.2 (well_at i sheet) _ (intake_is _ _ _ _ (omega arith) c.loop-i.invariant.3).1
 
 overloaded_is : (c : goal.After-below_zero-overloaded)
     → c.below_zero-overloaded.result ≡ pick (below_zero (row c).spare) 1 0
@@ -149,8 +70,8 @@ loop-i-preserved c =
       omega arith,
       omega (arith, one_more c),
       simp length-set l.invariant.2,
-      rw (add-one l.i) (intake_is c).2,
-      rw (add-one l.i) (omega (arith, total_left c)),
+      rw (add-one l.i) (intake_is _ _ _ _ (omega arith) c.loop-i.invariant.3).2,
+      rw (add-one l.i) (omega (arith, total_left _ _ _ _ _ (omega arith) c.loop-i.invariant.3 c.loop-i.invariant.4)),
       rw (add-one l.i, overloaded_is c) (omega (arith, rw e at l.invariant.5)),
       rw (spare_is c, stored l.spare l.i (row c).spare (omega arith), append_snoc, add-one l.i) (rw e at l.invariant.6),
     )
@@ -171,15 +92,15 @@ returns c =
 
 pub bounds-intake-i : goal.bounds-intake-i
 bounds-intake-i c =
-    (intake_is-2 c).0
+    (intake_is _ _ _ _ (omega arith) c.loop-i.invariant.3).0
 
 pub spare_of-s-requires : goal.spare_of-s-requires
 spare_of-s-requires c =
-    omega (arith, total_left-2 c)
+    omega (arith, total_left _ _ _ _ _ (omega arith) c.loop-i.invariant.3 c.loop-i.invariant.4)
 
 pub overflow_add-total : goal.overflow_add-total
 overflow_add-total c =
-    omega (arith, total_left-3 c)
+    omega (arith, total_left _ _ _ _ _ (omega arith) c.loop-i.invariant.3 c.loop-i.invariant.4)
 
 pub overflow_add-overloaded : goal.overflow_add-overloaded
 overflow_add-overloaded c =

@@ -2,8 +2,6 @@
 -- Assumes nothing.
 use mathlib.Core.Path.{◌≡◌, sym, ◌∙◌}
 use mathlib.Core.List.{[], ◌∷◌}
-use Prim.Native.Nat.{◌*◌, ◌≤◌}
-use lib.ListN.{length}
 use lib.Seq.{length-take-le}
 use Rattle.definition.proofs.Refusals.{not_done}
 use Rattle.brine_definition.specs.Statement.{refused_by, brine_outcome}
@@ -19,40 +17,9 @@ returns-then-number-ne-DONE c =
     rw (c.bare.ensures, ← c.judged-number.ensures)
     (sym (not_done c.judged-number.result _ _ c.if-number-ne-DONE.true), sym (not_done c.judged-number.result _ _ c.if-number-ne-DONE.true))
 
--- nothing is refused
-allowed : (c : goal.After-spare-1) → let a = c.args in given a.sheet.now (a.n ∷ []) a.intake.now a.spare.now ≡ 0
-allowed c = sym c.judged-number.ensures ∙ c.if-number-ne-DONE.false
-
--- nothing is refused
-allowed-2 : (c : goal.After-page-arg-3-1) → let a = c.args in given a.sheet.now (a.n ∷ []) a.intake.now a.spare.now ≡ 0
-allowed-2 c = sym c.judged-number.ensures ∙ c.if-number-ne-DONE.false
-
--- nothing is refused
-allowed-3 : (c : goal.After-page-arg-1) → let a = c.args in given a.sheet.now (a.n ∷ []) a.intake.now a.spare.now ≡ 0
-allowed-3 c = sym c.judged-number.ensures ∙ c.if-number-ne-DONE.false
-
--- nothing is refused
-allowed-4 : (c : goal.After-page-arg-2-1) → let a = c.args in given a.sheet.now (a.n ∷ []) a.intake.now a.spare.now ≡ 0
-allowed-4 c = sym c.judged-number.ensures ∙ c.if-number-ne-DONE.false
-
--- so there is room
-room : (c : goal.After-page-arg-3-1) → let a = c.args in
-    (a.n ≤ 1024) × (40 * a.n ≤ length a.sheet.now) × (a.n ≤ length a.intake.now) × (a.n ≤ length a.spare.now)
-room c = let a = c.args in room-alone a.n a.sheet.now a.intake.now a.spare.now (allowed-2 c)
-
--- so there is room
-room-2 : (c : goal.After-page-arg-1) → let a = c.args in
-    (a.n ≤ 1024) × (40 * a.n ≤ length a.sheet.now) × (a.n ≤ length a.intake.now) × (a.n ≤ length a.spare.now)
-room-2 c = let a = c.args in room-alone a.n a.sheet.now a.intake.now a.spare.now (allowed-3 c)
-
--- so there is room
-room-3 : (c : goal.After-page-arg-2-1) → let a = c.args in
-    (a.n ≤ 1024) × (40 * a.n ≤ length a.sheet.now) × (a.n ≤ length a.intake.now) × (a.n ≤ length a.spare.now)
-room-3 c = let a = c.args in room-alone a.n a.sheet.now a.intake.now a.spare.now (allowed-4 c)
-
 pub page-requires : goal.page-requires
 page-requires c =
-    let r = room c in
+    let r = room-alone _ _ _ _ (sym c.judged-number.ensures ∙ c.if-number-ne-DONE.false) in
     (r.0, r.1, length-take-le _ _ r.2, length-take-le _ _ r.3)
 
 pub returns : goal.returns
@@ -60,20 +27,21 @@ unfolding table_after when_done
 returns c =
     let a = c.args in
     let f = c.page.ensures in
-    (rw (done_alone a.n a.sheet.now a.intake.now a.spare.now (allowed c), f.0.0, f.0.1, f.0.2), rw (allowed c) f.1)
+    let allowed : given a.sheet.now (a.n ∷ []) a.intake.now a.spare.now ≡ 0 = sym c.judged-number.ensures ∙ c.if-number-ne-DONE.false in
+    (rw (done_alone a.n a.sheet.now a.intake.now a.spare.now allowed, f.0.0, f.0.1, f.0.2), rw allowed f.1)
 
 pub slice_bounds-page-end : goal.slice_bounds-page-end
 slice_bounds-page-end c =
-    (room-2 c).2
+    (room-alone _ _ _ _ (sym c.judged-number.ensures ∙ c.if-number-ne-DONE.false)).2
 
 pub slice_bounds-page-end-2 : goal.slice_bounds-page-end-2
 slice_bounds-page-end-2 c =
-    sym (length-take-le _ _ (room-3 c).2)
+    sym (length-take-le _ _ (room-alone _ _ _ _ (sym c.judged-number.ensures ∙ c.if-number-ne-DONE.false)).2)
 
 pub slice_bounds-page-end-3 : goal.slice_bounds-page-end-3
 slice_bounds-page-end-3 c =
-    (room-3 c).3
+    (room-alone _ _ _ _ (sym c.judged-number.ensures ∙ c.if-number-ne-DONE.false)).3
 
 pub slice_bounds-page-end-4 : goal.slice_bounds-page-end-4
 slice_bounds-page-end-4 c =
-    sym (length-take-le _ _ (room c).3)
+    sym (length-take-le _ _ (room-alone _ _ _ _ (sym c.judged-number.ensures ∙ c.if-number-ne-DONE.false)).3)
