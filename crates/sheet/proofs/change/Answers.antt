@@ -1,10 +1,13 @@
 -- `sheet::change` meets its contract: judged, and then a save of one record.
 -- Assumes nothing.
 use mathlib.Core.Path.{◌≡◌, sym, ◌∙◌}
+use mathlib.Core.List.{List}
+use Prim.Native.Nat.{ℕ}
 use native.Mathlib.Omega.{arith}
 use lib.ListN.{length}
+use Rattle.definition.specs.Refusal.{first_of}
 use Rattle.sheet_definition.specs.Sheet.{World, record_bytes}
-use Rattle.sheet_definition.specs.SheetCalls.{Call, refusals_of, one_record, edit_of, save_of, plain}
+use Rattle.sheet_definition.specs.SheetCalls.{refusals_of, one_record, edit_of, save_of, plain}
 use Rattle.sheet_definition.specs.SheetCalls.Kind.{Change}
 use Rattle.sheet_definition.proofs.Edits.{change-size}
 use Rattle.sheet_marks.specs.Total.{cleared}
@@ -12,40 +15,23 @@ use Rattle.sheet_marks.proofs.Total.{cleared_none}
 use Rattle.sheet.proofs.Saved.{judged, saved}
 use Rattle.sheet.proofs.change.Goals as goal
 
-abbrev lent : goal.After-save-arg-3-1 → World
-lent j = let a = j.args in record { code = a.code; n = a.n; sheet = a.sheet.now; marks = a.marks.now }
-
-abbrev lent-2 : goal.After-slice_known-6-1 → World
-lent-2 j = let a = j.args in record { code = a.code; n = a.n; sheet = a.sheet.now; marks = a.marks.now }
-
-abbrev asked : goal.After-save-arg-3-1 → Call
-asked j = let a = j.args in plain (Change a.place a.«record».now) a.claim.now a.out.now
-
-abbrev asked-2 : goal.After-slice_known-6-1 → Call
-asked-2 j = let a = j.args in plain (Change a.place a.«record».now) a.claim.now a.out.now
-
 -- the record has its size, and the edit is the call's
-one : (j : goal.After-save-arg-3-1) → j.change-number.result ≡ 0 → let a = j.args in
-    (length a.«record».now ≡ record_bytes) × (one_record (lent j) a.place a.«record».now a.n (cleared a.n a.n a.marks.now) ≡ edit_of (lent j) (asked j).kind)
+one : (w : World) (place : ℕ) (x claim out : List ℕ) {k : ℕ} → k ≡ first_of (save_of w (plain (Change place x) claim out)).refusals → k ≡ 0
+    → (length x ≡ record_bytes) × (one_record w place x w.n (cleared w.n w.n w.marks) ≡ edit_of w (Change place x))
 unfolding save_of refusals_of edit_of
-one j z =
-    let a = j.args in
-    (change-size (lent j) (asked j) a.«record».now a.place (sym j.change-number.ensures ∙ z), rw (cleared_none a.n a.n a.marks.now (omega arith)))
-
--- the record has its size, and the edit is the call's
-one-2 : (j : goal.After-slice_known-6-1) → j.change-number.result ≡ 0 → let a = j.args in
-    (length a.«record».now ≡ record_bytes) × (one_record (lent-2 j) a.place a.«record».now a.n (cleared a.n a.n a.marks.now) ≡ edit_of (lent-2 j) (asked-2 j).kind)
-unfolding save_of refusals_of edit_of
-one-2 j z =
-    let a = j.args in
-    (change-size (lent-2 j) (asked-2 j) a.«record».now a.place (sym j.change-number.ensures ∙ z), rw (cleared_none a.n a.n a.marks.now (omega arith)))
+one w place x claim out e z =
+    (change-size w (plain (Change place x) claim out) x place (sym e ∙ z), rw (cleared_none w.n w.n w.marks (omega arith)))
 
 pub save-requires : goal.save-requires
 unfolding save_of refusals_of
 save-requires c =
-    judged (lent c) (asked c).kind (asked c).claim (asked c).out _ _ _ c.change-number.ensures (one c)
+    let a = c.args in
+    let w : World = record { code = a.code; n = a.n; sheet = a.sheet.now; marks = a.marks.now } in
+    judged w (Change a.place a.«record».now) a.claim.now a.out.now _ _ _ c.change-number.ensures (one w a.place a.«record».now a.claim.now a.out.now c.change-number.ensures)
 
 pub returns : goal.returns
 unfolding save_of refusals_of
 returns c =
-    saved (lent-2 c) (asked-2 c).kind (asked-2 c).claim (asked-2 c).out _ _ _ c.change-number.ensures (one-2 c) c.save.ensures
+    let a = c.args in
+    let w : World = record { code = a.code; n = a.n; sheet = a.sheet.now; marks = a.marks.now } in
+    saved w (Change a.place a.«record».now) a.claim.now a.out.now _ _ _ c.change-number.ensures (one w a.place a.«record».now a.claim.now a.out.now c.change-number.ensures) c.save.ensures
