@@ -32,6 +32,11 @@ pub record Asked : Type 0 where
   pub own_marks : List ℕ
   pub out : List ℕ
 
+-- the same from what a call is handed
+abbrev pub handed : (code n : ℕ) (sheet marks : List ℕ) (k : Kind) (claim : List ℕ) (own : ℕ) (own_marks out : List ℕ) → Asked
+handed code n sheet marks k claim own own_marks out =
+    record { w = record { code = code; n = n; sheet = sheet; marks = marks }; k = k; claim = claim; own = own; own_marks = own_marks; out = out }
+
 -- the number of its refusals
 abbrev pub judged_by : Asked → ℕ
 judged_by a = first_of (save_of a.w (record { kind = a.k; claim = a.claim; own = Brought a.own a.own_marks; out = a.out })).refusals
