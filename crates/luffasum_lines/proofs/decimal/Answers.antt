@@ -4,7 +4,7 @@ use mathlib.Core.Path.{◌≡◌, ◌∙◌}
 use mathlib.Core.List.{[]}
 use Prim.Native.Nat.{suc, ◌-◌}
 use native.Mathlib.Omega.{arith}
-use lib.ListN.{length, drop, length-set, drop_of_length-le}
+use lib.ListN.{drop, length-set, drop_of_length-le}
 use Rattle.luffasum_lines.specs.Line.{decimal}
 use Rattle.luffasum_lines.proofs.Digits.{store_next, store_last, shorter}
 use Rattle.luffasum_lines.proofs.decimal.Goals as goal

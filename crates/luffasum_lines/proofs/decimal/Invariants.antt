@@ -1,6 +1,6 @@
 -- The invariants of `luffasum_lines::decimal`.
 use mathlib.Core.Path.{◌≡◌}
-use Prim.Native.Nat.{◌-◌, ◌^◌, ◌<◌, ◌≤◌}
+use Prim.Native.Nat.{◌^◌, ◌<◌, ◌≤◌}
 use lib.ListN.{length, drop}
 use Rattle.luffasum_lines.specs.Line.{decimal_before, decimal}
 use Rattle.luffasum_lines.proofs.decimal.Given as goal

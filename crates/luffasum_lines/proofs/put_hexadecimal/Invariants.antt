@@ -4,7 +4,7 @@ use mathlib.Core.List.{List}
 use Prim.Native.Nat.{ℕ, ◌+◌, ◌-◌, ◌*◌, ◌^◌, ◌<◌, ◌≤◌}
 use lib.ListN.{length, take}
 use Rattle.octets.specs.Total.{write_at}
-use Rattle.luffasum_lines.specs.Line.{digit, hexadecimal}
+use Rattle.luffasum_lines.specs.Line.{hexadecimal}
 use Rattle.luffasum_lines.proofs.put_hexadecimal.Given as goal
 
 -- the digits of the first k bytes

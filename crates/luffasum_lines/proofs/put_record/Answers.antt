@@ -2,14 +2,13 @@
 -- Assumes nothing.
 use mathlib.Core.Path.{◌≡◌, sym, ap, ap₂, ◌∙◌}
 use mathlib.Core.List.{List, []}
-use mathlib.Core.Bool.{true}
 use Prim.Native.Nat.{ℕ, ◌+◌, ◌*◌, ◌≤◌}
 use native.Mathlib.Omega.{arith}
 use lib.ListN.{length, take}
 use lib.Seq.{length-take-le}
-use Rattle.definition.specs.Luffa.{bytes_at}
+use Rattle.definition.specs.Luffa.{words_at, bytes_at}
 use Rattle.definition.proofs.Codes.{words_le}
-use Rattle.hash_definition.specs.Record.{well_kept, finished}
+use Rattle.hash_definition.specs.Record.{finished}
 use Rattle.hash_definition.specs.Calls.{Outcome}
 use Rattle.hash_definition.proofs.WorkingDemand2.{lent_finish_done}
 use Rattle.octets.specs.Total.{write_at}
@@ -25,17 +24,9 @@ pub returns-then-form-ne-DONE : goal.returns-then-form-ne-DONE
 returns-then-form-ne-DONE c =
     none _ _ _ (omega (arith, c.requires.2)) (unkept _ _ _ (unformed _ (rw c.form.ensures at c.if-form-ne-DONE.true)))
 
--- what is held passed the first test
-kept : (c : goal.Then-k-c) → well_kept c.args.k ≡ true
-kept c = formed _ (sym c.form.ensures ∙ c.if-form-ne-DONE.false)
-
--- what is held passed the first test
-kept-2 : (c : goal.After-slice_known-2-1) → well_kept c.args.k ≡ true
-kept-2 c = formed _ (sym c.form.ensures ∙ c.if-form-ne-DONE.false)
-
 pub returns-then-k-c : goal.returns-then-k-c
 returns-then-k-c c =
-    none _ _ _ (omega (arith, c.requires.2)) (elsewhere _ _ _ (kept c) c.if-k-c.true)
+    none _ _ _ (omega (arith, c.requires.2)) (elsewhere _ _ _ (formed _ (sym c.form.ensures ∙ c.if-form-ne-DONE.false)) c.if-k-c.true)
 
 -- a digest has 64 bytes at most
 small : (code : ℕ) → bytes_at code ≤ 64
@@ -45,54 +36,36 @@ small code = omega (arith, words_le code)
 pub overflow_mul-n : goal.overflow_mul-n
 overflow_mul-n c = omega (arith, c.words-n.ensures, words_le c.args.code)
 
--- so many bytes as the code's digest has are in the buffer
-asked : (c : goal.After-digest-3-1) → 4 * c.words-n.result ≡ bytes_at c.args.code
+-- so many bytes as the code's digest has
+asked : {n : ℕ} (code : ℕ) → n ≡ words_at code → 4 * n ≡ bytes_at code
 unfolding bytes_at
-asked c = ap (λ (n : ℕ). 4 * n) c.words-n.ensures
+asked code e = ap (λ (n : ℕ). 4 * n) e
 
--- so many bytes as the code's digest has are in the buffer
-asked-2 : (c : goal.After-put_line-arg-1) → 4 * c.words-n.result ≡ bytes_at c.args.code
-unfolding bytes_at
-asked-2 c = ap (λ (n : ℕ). 4 * n) c.words-n.ensures
-
--- so many bytes as the code's digest has are in the buffer
-asked-3 : (c : goal.After-slice_known-2-1) → 4 * c.words-n.result ≡ bytes_at c.args.code
-unfolding bytes_at
-asked-3 c = ap (λ (n : ℕ). 4 * n) c.words-n.ensures
-
-size : (c : goal.After-digest-3-1) → length c.finished_answer.new.out ≡ 64
-size c = c.finished_answer.auto.out
-
-size-2 : (c : goal.After-put_line-arg-1) → length c.finished_answer.new.out ≡ 64
-size-2 c = c.finished_answer.auto.out
-
-within : (c : goal.After-digest-3-1) → 4 * c.words-n.result ≤ length c.finished_answer.new.out
-within c = omega (arith, size c, asked c, small c.args.code)
-
-within-2 : (c : goal.After-put_line-arg-1) → 4 * c.words-n.result ≤ length c.finished_answer.new.out
-within-2 c = omega (arith, size-2 c, asked-2 c, small c.args.code)
+-- are in the buffer
+within : {n : ℕ} (code : ℕ) (digest : List ℕ) → n ≡ words_at code → length digest ≡ 64 → 4 * n ≤ length digest
+within code digest e l = omega (arith, asked code e, small code, l)
 
 -- and are the front of the digest
 shown : (c : goal.After-slice_known-2-1) → take (4 * c.words-n.result) c.finished_answer.new.out ≡ take (bytes_at c.args.code) (finished c.args.k)
 shown c =
     let k = c.args.k in
-    let d = ap (λ (o : Outcome). o.buffer) (c.finished_answer.ensures ∙ lent_finish_done k _ (kept-2 c) (small k.code)) in
-    ap₂ (λ (n : ℕ) (l : List ℕ). take n l) (asked-3 c) d ∙ front c.args.code c.args.c k c.if-k-c.false c.requires.1 _
+    let d = ap (λ (o : Outcome). o.buffer) (c.finished_answer.ensures ∙ lent_finish_done k _ (formed _ (sym c.form.ensures ∙ c.if-form-ne-DONE.false)) (small k.code)) in
+    ap₂ (λ (n : ℕ) (l : List ℕ). take n l) (asked c.args.code c.words-n.ensures) d ∙ front c.args.code c.args.c k c.if-k-c.false c.requires.1 _
 
 pub put_line-requires : goal.put_line-requires
 put_line-requires c =
-    (c.requires.0, omega (arith, length-take-le (4 * c.words-n.result) c.finished_answer.new.out (within c), asked c, c.requires.2))
+    (c.requires.0, omega (arith, length-take-le (4 * c.words-n.result) c.finished_answer.new.out (within c.args.code c.finished_answer.new.out c.words-n.ensures c.finished_answer.auto.out), asked c.args.code c.words-n.ensures, c.requires.2))
 
 pub returns : goal.returns
 returns c =
     let a = c.args in
-    let l = held a.code a.c a.k (kept-2 c) c.if-k-c.false in
+    let l = held a.code a.c a.k (formed _ (sym c.form.ensures ∙ c.if-form-ne-DONE.false)) c.if-k-c.false in
     rw (l, ← shown c) c.put_line.ensures
 
 pub slice_bounds-digest-end : goal.slice_bounds-digest-end
 slice_bounds-digest-end c =
-    within-2 c
+    within c.args.code c.finished_answer.new.out c.words-n.ensures c.finished_answer.auto.out
 
 pub slice_bounds-put_line-end : goal.slice_bounds-put_line-end
 slice_bounds-put_line-end c =
-    sym (length-take-le _ _ (within c))
+    sym (length-take-le _ _ (within c.args.code c.finished_answer.new.out c.words-n.ensures c.finished_answer.auto.out))
