@@ -3,7 +3,7 @@
 use mathlib.Core.Path.{◌≡◌, sym, ap, ◌∙◌}
 use mathlib.Core.Bool.{false, ◌||◌}
 use mathlib.Core.List.{List}
-use Prim.Native.Nat.{ℕ, suc}
+use Prim.Native.Nat.{ℕ, suc, ◌<◌}
 use native.Mathlib.Numerals.{add-one}
 use native.Mathlib.Omega.{arith}
 use borrow.Author.Tests.{eq-eqb, ne_eqb, lt-ltb, le-ltb}
@@ -14,8 +14,9 @@ use Rattle.plan_definition.specs.Well.{wells}
 use Rattle.plan_definition.specs.Rules.{has_number}
 use Rattle.plan_definition.proofs.Struck.{of_number}
 use Rattle.plan_definition.proofs.Places.{left, left_all, left_step, left_none}
+use Rattle.plan_record.specs.Total.{well_in}
 use Rattle.reach_definition.proofs.Refused.{none_named, none_zero}
-use Rattle.reach.specs.Level.{FoundAt}
+use Rattle.reach.specs.Level.{Searched, FoundAt}
 use Rattle.reach.proofs.Wells.{numbered, reads}
 use Rattle.reach.proofs.find.Goals as goal
 
@@ -37,26 +38,11 @@ pub loop-i-init : goal.loop-i-init
 loop-i-init c = let a = c.args in (omega arith, rw (left_all a.n a.sheet.now))
 
 -- the well at the place has the number, or one after it has
-step : (c : goal.Then-w-well) →
-    let a = c.args in
-    let i = c.loop-i.i in
-    eqb c.read-w.result.number a.well || some (has_number a.well) (left (suc i) a.n a.sheet.now)
-    ≡ some (has_number a.well) (wells a.n a.sheet.now)
+step : (sheet : List ℕ) (n i well : ℕ) {w : Well} → Searched sheet n → i < n → (well ≡ 0 → ⊥) → w ≡ well_in sheet i
+    → some (has_number well) (left i n sheet) ≡ some (has_number well) (wells n sheet)
+    → eqb w.number well || some (has_number well) (left (suc i) n sheet) ≡ some (has_number well) (wells n sheet)
 unfolding some
-step c =
-    let l = c.loop-i in
-    rw (c.read-w.ensures, reads c.requires {i = l.i} (omega arith), ← numbered c.args.well _ c.if-well-eq0.false) (rw (left_step c.args.n c.args.sheet.now l.i (omega arith)) at l.invariant.1)
-
--- the well at the place has the number, or one after it has
-step-2 : (c : goal.Else-w-well) →
-    let a = c.args in
-    let i = c.loop-i.i in
-    eqb c.read-w.result.number a.well || some (has_number a.well) (left (suc i) a.n a.sheet.now)
-    ≡ some (has_number a.well) (wells a.n a.sheet.now)
-unfolding some
-step-2 c =
-    let l = c.loop-i in
-    rw (c.read-w.ensures, reads c.requires {i = l.i} (omega arith), ← numbered c.args.well _ c.if-well-eq0.false) (rw (left_step c.args.n c.args.sheet.now l.i (omega arith)) at l.invariant.1)
+step sheet n i well s h z e l = rw (e, reads s h, ← numbered well _ z) (rw (left_step n sheet i h) at l)
 
 pub returns-then-w-well : goal.returns-then-w-well
 returns-then-w-well c =
@@ -64,14 +50,15 @@ returns-then-w-well c =
     let number = ap (λ (w : Well). w.number) (sym c.read-w.ensures) ∙ c.if-w-well.true in
     record {
       within = omega arith;
-      there = lt-ltb l.i c.args.n (omega arith) ∙ (rw (eq-eqb _ _ c.if-w-well.true) at (step c));
+      there = lt-ltb l.i c.args.n (omega arith) ∙ (rw (eq-eqb _ _ c.if-w-well.true) at (step _ _ l.i _ c.requires (omega arith) c.if-well-eq0.false c.read-w.ensures l.invariant.1));
       stands-there = λ h. of_number _ (λ z. c.if-well-eq0.false (sym number ∙ z));
       number-there = λ h. number;
     }
 
 pub loop-i-preserved : goal.loop-i-preserved
 loop-i-preserved c =
-    (omega arith, rw (add-one c.loop-i.i) (rw (ne_eqb _ _ c.if-w-well.false) at (step-2 c)))
+    let l = c.loop-i in
+    (omega arith, rw (add-one l.i) (rw (ne_eqb _ _ c.if-w-well.false) at (step _ _ l.i _ c.requires (omega arith) c.if-well-eq0.false c.read-w.ensures l.invariant.1)))
 
 pub returns : goal.returns
 unfolding some

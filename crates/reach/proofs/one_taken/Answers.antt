@@ -1,53 +1,41 @@
 -- `reach::one_taken` meets its contract. The loop's invariant: what is left decides.
 -- Assumes nothing.
 use mathlib.Core.Path.{◌≡◌, refl, sym, ◌∙◌}
-use mathlib.Core.Bool.{◌||◌}
-use Prim.Native.Nat.{suc}
+use mathlib.Core.Bool.{Bool, ◌||◌}
+use mathlib.Core.List.{List}
+use Prim.Native.Nat.{ℕ, suc, ◌<◌, ◌≤◌}
 use native.Mathlib.Numerals.{add-one}
 use native.Mathlib.Omega.{arith}
 use borrow.Author.Rules.{rules}
-use lib.ListN.{length}
+use lib.ListN.{length, get_or}
 use lib.Seq.{slice}
+use Rattle.plan_definition.specs.declared.Link.{Link}
 use Rattle.plan_definition.specs.Some.{some}
+use Rattle.plan_definition.specs.Well.{no_link}
 use Rattle.plan_definition.proofs.Links.{none_left, some_left}
 use Rattle.plan_numbers.specs.Numbers.{has}
 use Rattle.reach.specs.Sets.{takes}
 use Rattle.reach.proofs.one_taken.Goals as goal
 
-four : (s : goal.Then-has) → length s.args.links ≡ 4
-four s = search rules
-
-four-2 : (s : goal.Else-has) → length s.args.links ≡ 4
-four-2 s = search rules
-
 -- the next link's injector is in the set, or that of one after it is
-left : (c : goal.Then-has) →
-    let a = c.args in
-    c.has.result || some (takes (has a.taken.now)) (slice (suc c.loop-k.k) a.count a.links)
-    ≡ some (takes (has a.taken.now)) (slice 0 a.count a.links)
+left : (f : ℕ → Bool) (k t : ℕ) (ls : List Link) {b : Bool} → b ≡ f (get_or ls k no_link).injector → k < t → t ≤ length ls
+    → some (takes f) (slice k t ls) ≡ some (takes f) (slice 0 t ls) → b || some (takes f) (slice (suc k) t ls) ≡ some (takes f) (slice 0 t ls)
 unfolding takes
-left c =
-    let a = c.args in
-    rw c.has.ensures
-    (sym (some_left (takes (has a.taken.now)) c.loop-k.k a.count a.links (omega arith) (omega (arith, four c, c.requires))) ∙ c.loop-k.invariant.1)
-
--- the next link's injector is in the set, or that of one after it is
-left-2 : (c : goal.Else-has) →
-    let a = c.args in
-    c.has.result || some (takes (has a.taken.now)) (slice (suc c.loop-k.k) a.count a.links)
-    ≡ some (takes (has a.taken.now)) (slice 0 a.count a.links)
-unfolding takes
-left-2 c =
-    let a = c.args in
-    rw c.has.ensures
-    (sym (some_left (takes (has a.taken.now)) c.loop-k.k a.count a.links (omega arith) (omega (arith, four-2 c, c.requires))) ∙ c.loop-k.invariant.1)
+left f k t ls e h g i = rw e (sym (some_left (takes f) k t ls h g) ∙ i)
 
 pub returns-then-has : goal.returns-then-has
-returns-then-has c = rw c.if-has.true at (left c)
+returns-then-has c =
+    let a = c.args in
+    let l = c.loop-k in
+    let four : length a.links ≡ 4 = search rules in
+    rw c.if-has.true at (left (has a.taken.now) l.k a.count a.links c.has.ensures (omega arith) (omega (arith, four, c.requires)) l.invariant.1)
 
 pub loop-k-preserved : goal.loop-k-preserved
 loop-k-preserved c =
-    (omega arith, rw (add-one c.loop-k.k) (rw c.if-has.false at (left-2 c)))
+    let a = c.args in
+    let l = c.loop-k in
+    let four : length a.links ≡ 4 = search rules in
+    (omega arith, rw (add-one l.k) (rw c.if-has.false at (left (has a.taken.now) l.k a.count a.links c.has.ensures (omega arith) (omega (arith, four, c.requires)) l.invariant.1)))
 
 pub returns : goal.returns
 unfolding some

@@ -21,18 +21,6 @@ use Rattle.reach.proofs.search.Goals.{then-w-eq-PRODUCER, else-w-eq-PRODUCER}
 zeros : (c : goal.After-slice_known-3-1) → c.clear.new.reached ≡ replicate c.args.n 0
 zeros c = rw c.requires.2 at c.clear.ensures
 
-long : (c : goal.After-taken-1) → length c.clear.new.reached ≡ c.args.n
-long c = c.clear.auto.reached ∙ c.requires.2
-
-long-2 : (c : goal.After-taken-else-w-eq-PRODUCER-2-1) → length c.clear.new.reached ≡ c.args.n
-long-2 c = c.clear.auto.reached ∙ c.requires.2
-
-long-3 : (c : goal.After-mark-arg-1) → length c.clear.new.reached ≡ c.args.n
-long-3 c = c.clear.auto.reached ∙ c.requires.2
-
-long-4 : (c : goal.After-slice_known-3-1) → length c.clear.new.reached ≡ c.args.n
-long-4 c = c.clear.auto.reached ∙ c.requires.2
-
 -- the well that was read
 the_well : (c : goal.After-slice_known-3-1) → let a = c.args in
     c.read-w.result ≡ well_at a.place a.sheet.now
@@ -44,11 +32,11 @@ stands s = rw (reads s.requires.0 {i = s.args.place} s.requires.1) at s.requires
 
 pub from_producers-requires : goal.from_producers-requires
 from_producers-requires c =
-    (c.requires.0, simp length-set (omega (arith, long c)))
+    (c.requires.0, simp length-set (omega (arith, c.clear.auto.reached, c.requires.2)))
 
 pub from_injectors-requires : goal.from_injectors-requires
 from_injectors-requires c =
-    (c.requires.0, omega (arith, long-2 c))
+    (c.requires.0, omega (arith, c.clear.auto.reached, c.requires.2))
 
 -- so many hops from the well
 level : (c : goal.After-slice_known-3-1) → let a = c.args in
@@ -72,16 +60,16 @@ level c =
 joined-long : (c : goal.After-mark-arg-1) → length c.if-w-eq-PRODUCER.reached ≡ c.args.n
 joined-long c =
     elim c.if-w-eq-PRODUCER.branch [
-      | then-w-eq-PRODUCER t ↦ rw t.reached-is ((simp length-set at t.from_producers.auto.reached) ∙ long-3 c)
-      | else-w-eq-PRODUCER t ↦ rw t.reached-is (t.from_injectors.auto.reached ∙ long-3 c)
+      | then-w-eq-PRODUCER t ↦ rw t.reached-is ((simp length-set at t.from_producers.auto.reached) ∙ c.clear.auto.reached ∙ c.requires.2)
+      | else-w-eq-PRODUCER t ↦ rw t.reached-is (t.from_injectors.auto.reached ∙ c.clear.auto.reached ∙ c.requires.2)
     ]
 
 -- the buffer is as long as it was
 joined-long-2 : (c : goal.After-slice_known-3-1) → length c.if-w-eq-PRODUCER.reached ≡ c.args.n
 joined-long-2 c =
     elim c.if-w-eq-PRODUCER.branch [
-      | then-w-eq-PRODUCER t ↦ rw t.reached-is ((simp length-set at t.from_producers.auto.reached) ∙ long-4 c)
-      | else-w-eq-PRODUCER t ↦ rw t.reached-is (t.from_injectors.auto.reached ∙ long-4 c)
+      | then-w-eq-PRODUCER t ↦ rw t.reached-is ((simp length-set at t.from_producers.auto.reached) ∙ c.clear.auto.reached ∙ c.requires.2)
+      | else-w-eq-PRODUCER t ↦ rw t.reached-is (t.from_injectors.auto.reached ∙ c.clear.auto.reached ∙ c.requires.2)
     ]
 
 pub mark-requires : goal.mark-requires
