@@ -17,7 +17,8 @@ pub sound_sheet-requires : goal.sound_sheet-requires
 sound_sheet-requires c =
     let intake : c.clear.new.intake ≡ replicate c.args.n 0 = rw c.requires.2 at c.clear.ensures.0 in
     let spare : c.clear.new.spare ≡ replicate c.args.n (pos 0) = rw c.requires.2 at c.clear.ensures.1 in
-    (c.requires.0, c.requires.1, sym (c.says_sound.ensures ∙ says _ _ _ c.requires.0 c.requires.1 c.check.ensures) ∙ c.if-says_sound.true, intake, ap length spare ∙ length-replicate c.args.n (pos 0))
+    let e = sym (c.says_sound.ensures ∙ says _ _ _ c.requires.0 c.requires.1 c.check.ensures) ∙ c.if-says_sound.true in
+    (c.requires.0, c.requires.1, e, intake, ap length spare ∙ length-replicate c.args.n (pos 0))
 
 pub returns-then-says_sound : goal.returns-then-says_sound
 unfolding placed_if

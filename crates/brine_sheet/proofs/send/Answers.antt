@@ -26,10 +26,10 @@ abbrev kilograms : goal.After-struct_known-1 → ℕ
 kilograms c = c.args.rate * (get_or c.args.links c.loop-k.k no_link).share
 
 -- a link that is used leads to a place of the list
-below : (t : List ℕ) (links : List Link) (count k m : ℕ) {l p : ℕ} → length links ≡ 4 → count ≤ 4 → k < count
+below : (t : List ℕ) (links : List Link) {count k m l p : ℕ} → length links ≡ 4 → count ≤ 4 → k < count
     → Named t m (slice 0 count links) → l ≡ m → p ≡ get_or t (get_or links k no_link).injector 0 → p < l
 unfolding Named
-below t links count k m four few h names same e =
+below t links {count} {k} four few h names same e =
     let there = length-slice 0 count links (omega (arith, four, few)) in
     let named = names _ (at_index (slice 0 count links) k no_link (omega arith)) in
     rw (e, same, ← get_or-take count links k no_link h) named
@@ -53,15 +53,17 @@ fits : (c : goal.After-struct_known-1) → get_or c.loop-k.intake c.at-p.result 
 unfolding Takes pick
 fits c =
     let p = c.at-p.result in
-    let whole = c.requires.2 p (rw (← c.loop-k.invariant.1) (below _ c.args.links _ _ _ (search rules) c.requires.0 (omega arith) c.requires.1 c.loop-k.invariant.1 c.at-p.ensures)) in
+    let there : p < length c.loop-k.intake = below _ c.args.links (search rules) c.requires.0 (omega arith) c.requires.1 c.loop-k.invariant.1 c.at-p.ensures in
+    let whole = c.requires.2 p (rw (← c.loop-k.invariant.1) there) in
     omega (arith, whole, rw (eq-eqb p p refl) at (step c p))
 
 pub loop-k-preserved : goal.loop-k-preserved
 loop-k-preserved c =
-    let l = c.loop-k in (
+    let l = c.loop-k in
+    let there = below _ c.args.links (search rules) c.requires.0 (omega arith) c.requires.1 l.invariant.1 c.at-p.ensures in (
       omega arith,
       length-set l.intake c.at-p.result _ ∙ l.invariant.1,
-      λ q. rw (add-one l.k) (omega (arith, step c q, put_more l.intake c.at-p.result (kilograms c) q (below _ c.args.links _ _ _ (search rules) c.requires.0 (omega arith) c.requires.1 c.loop-k.invariant.1 c.at-p.ensures))),
+      λ q. rw (add-one l.k) (omega (arith, step c q, put_more l.intake c.at-p.result (kilograms c) q there)),
     )
 
 pub returns : goal.returns
@@ -74,11 +76,11 @@ returns c =
 
 pub offset_bounds-intake-p : goal.offset_bounds-intake-p
 offset_bounds-intake-p c =
-    omega (arith, below _ c.args.links _ _ _ (search rules) c.requires.0 (omega arith) c.requires.1 c.loop-k.invariant.1 c.at-p.ensures)
+    omega (arith, below _ c.args.links (search rules) c.requires.0 (omega arith) c.requires.1 c.loop-k.invariant.1 c.at-p.ensures)
 
 pub bounds-intake-p : goal.bounds-intake-p
 bounds-intake-p c =
-    below _ c.args.links _ _ _ (search rules) c.requires.0 (omega arith) c.requires.1 c.loop-k.invariant.1 c.at-p.ensures
+    below _ c.args.links (search rules) c.requires.0 (omega arith) c.requires.1 c.loop-k.invariant.1 c.at-p.ensures
 
 pub overflow_mul-intake : goal.overflow_mul-intake
 overflow_mul-intake c =
@@ -86,11 +88,11 @@ overflow_mul-intake c =
 
 pub offset_bounds-intake-p-in-loop-k : goal.offset_bounds-intake-p-in-loop-k
 offset_bounds-intake-p-in-loop-k c =
-    omega (arith, below _ c.args.links _ _ _ (search rules) c.requires.0 (omega arith) c.requires.1 c.loop-k.invariant.1 c.at-p.ensures)
+    omega (arith, below _ c.args.links (search rules) c.requires.0 (omega arith) c.requires.1 c.loop-k.invariant.1 c.at-p.ensures)
 
 pub bounds-intake-p-in-loop-k : goal.bounds-intake-p-in-loop-k
 bounds-intake-p-in-loop-k c =
-    below _ c.args.links _ _ _ (search rules) c.requires.0 (omega arith) c.requires.1 c.loop-k.invariant.1 c.at-p.ensures
+    below _ c.args.links (search rules) c.requires.0 (omega arith) c.requires.1 c.loop-k.invariant.1 c.at-p.ensures
 
 pub shape_of-intake : goal.shape_of-intake
 shape_of-intake c =

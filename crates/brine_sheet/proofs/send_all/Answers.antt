@@ -44,7 +44,8 @@ unfolding Takes
 takes c e q h =
     let l = c.loop-i in
     let ws = left (suc l.i) c.args.n c.args.sheet.now in
-    omega (arith, c.requires.2 q (rw (← l.invariant.1) h), step _ _ _ _ q _ _ (c.read-w.ensures ∙ well_read _ _ (omega arith)) (omega arith) (l.invariant.2 q), sent_producer c.args.places.now c.read-w.result ws q e)
+    let whole = step _ _ _ _ q _ _ (c.read-w.ensures ∙ well_read _ _ (omega arith)) (omega arith) (l.invariant.2 q) in
+    omega (arith, c.requires.2 q (rw (← l.invariant.1) h), whole, sent_producer c.args.places.now c.read-w.result ws q e)
 
 pub send-requires : goal.send-requires
 send-requires c =
@@ -57,15 +58,16 @@ loop-i-preserved c =
     let a = c.args in
     let l = c.loop-i in
     let w = c.read-w.result in
-    let ws = left (suc l.i) a.n a.sheet.now in (
+    let ws = left (suc l.i) a.n a.sheet.now in
+    let whole = λ (q : ℕ). step _ _ _ _ q _ _ (c.read-w.ensures ∙ well_read _ _ (omega arith)) (omega arith) (l.invariant.2 q) in (
       omega arith,
       elim c.if-w-eq-PRODUCER.branch [
         | then-w-eq-PRODUCER s ↦ rw s.intake-is (s.send.auto.intake ∙ l.invariant.1)
         | else-w-eq-PRODUCER s ↦ rw s.intake-is l.invariant.1
       ],
       λ q. rw (add-one l.i) (elim c.if-w-eq-PRODUCER.branch [
-        | then-w-eq-PRODUCER s ↦ rw s.intake-is (omega (arith, step _ _ _ _ q _ _ (c.read-w.ensures ∙ well_read _ _ (omega arith)) (omega arith) (l.invariant.2 q), s.send.ensures q, sent_producer a.places.now w ws q (omega (arith, s.if-w-eq-PRODUCER.true))))
-        | else-w-eq-PRODUCER s ↦ rw s.intake-is (omega (arith, step _ _ _ _ q _ _ (c.read-w.ensures ∙ well_read _ _ (omega arith)) (omega arith) (l.invariant.2 q), sent_other a.places.now w ws q (λ e. omega (arith, s.if-w-eq-PRODUCER.false))))
+        | then-w-eq-PRODUCER s ↦ rw s.intake-is (omega (arith, whole q, s.send.ensures q, sent_producer a.places.now w ws q (omega (arith, s.if-w-eq-PRODUCER.true))))
+        | else-w-eq-PRODUCER s ↦ rw s.intake-is (omega (arith, whole q, sent_other a.places.now w ws q (λ e. omega (arith, s.if-w-eq-PRODUCER.false))))
       ]),
     )
 
