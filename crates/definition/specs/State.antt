@@ -3,12 +3,16 @@ use Rattle.std.specs.Prelude.{List, [], ◌∷◌, get_or, take}
 use Rattle.definition.specs.declared.Block.{Block}
 use Rattle.definition.specs.declared.State.{State}
 use Rattle.definition.specs.declared.Width.{Width}
-use Rattle.definition.specs.Block.{zero_block}
+use Rattle.definition.specs.Block.{◌⊕◌, zero_block}
 use Rattle.definition.specs.Width.{block_count}
 
 -- all five
 unfoldable pub five : State → List Block
 five s = s.h0 ∷ s.h1 ∷ s.h2 ∷ s.h3 ∷ s.h4 ∷ []
+
+-- XOR of two states, block by block
+abbrev pub xor_states : State → State → State
+xor_states s t = record { h0 = s.h0 ⊕ t.h0; h1 = s.h1 ⊕ t.h1; h2 = s.h2 ⊕ t.h2; h3 = s.h3 ⊕ t.h3; h4 = s.h4 ⊕ t.h4 }
 
 -- 3.2: H_0 to H_w-1
 unfoldable pub blocks_in : Width → State → List Block
