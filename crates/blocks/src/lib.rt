@@ -1,12 +1,13 @@
-// Blocks and states as every part above handles them: the block of zeros, XOR, doubling, the blocks that w uses, the number w,
-// and the words of a state (source, 2.2 and 3.2).
+// Blocks and states as every part above handles them: the block of zeros, XOR, doubling, the tweak, the blocks that w uses, the number w, and the
+// words of a state (source, 2.2, 3.2 and 4.5).
 #![tactic(auto)]
 
-ghost use Rattle.std.specs.Prelude.{◌≡◌};
+ghost use Rattle.std.specs.Prelude.{◌≡◌, ◌≤◌, [], ◌∷◌, replicate};
 ghost use Rattle.definition.specs.Block.{zero_block, ◌⊕◌, words_of_all};
 ghost use Rattle.definition.specs.Field.{double as double_of};
+ghost use Rattle.definition.specs.Permutation.{tweak as tweak_of};
 ghost use Rattle.definition.specs.Width.{block_count};
-ghost use Rattle.definition.specs.State.{five, blocks_in, state_of};
+ghost use Rattle.definition.specs.State.{five, xor_states, blocks_in, state_of};
 
 use definition::{Block, State, Width};
 
@@ -14,32 +15,14 @@ use definition::{Block, State, Width};
 pub fn zero() -> Block
     ensures { result ≡ zero_block }
 {
-    Block {
-        a0: 0,
-        a1: 0,
-        a2: 0,
-        a3: 0,
-        a4: 0,
-        a5: 0,
-        a6: 0,
-        a7: 0,
-    }
+    Block::ZERO
 }
 
 // XOR, word by word.
 pub fn xor(a: Block, b: Block) -> Block
     ensures { result ≡ a ⊕ b }
 {
-    Block {
-        a0: a.a0 ^ b.a0,
-        a1: a.a1 ^ b.a1,
-        a2: a.a2 ^ b.a2,
-        a3: a.a3 ^ b.a3,
-        a4: a.a4 ^ b.a4,
-        a5: a.a5 ^ b.a5,
-        a6: a.a6 ^ b.a6,
-        a7: a.a7 ^ b.a7,
-    }
+    a ^ b
 }
 
 // Multiplication by 0x02 (3.2).
@@ -58,29 +41,71 @@ pub fn double(a: Block) -> Block
     }
 }
 
+// M, 2M, 4M, 8M and 16M: what Appendix E adds to each block, 2^j M to the j-th.
+pub fn multiples(m: Block) -> State
+    ensures { result ≡ state_of
+        (m ∷ double_of m ∷ double_of (double_of m) ∷ double_of (double_of (double_of m)) ∷ double_of (double_of (double_of (double_of m))) ∷ []) }
+{
+    let m1 = double(m);
+    let m2 = double(m1);
+    let m3 = double(m2);
+    let m4 = double(m3);
+    State {
+        h0: m,
+        h1: m1,
+        h2: m2,
+        h3: m3,
+        h4: m4,
+    }
+}
+
+// The XOR of all five blocks.
+pub fn sum(s: State) -> Block
+    ensures { result ≡ s.h0 ⊕ s.h1 ⊕ s.h2 ⊕ s.h3 ⊕ s.h4 }
+{
+    s.h0 ^ s.h1 ^ s.h2 ^ s.h3 ^ s.h4
+}
+
+// A block XORed to each of the five.
+pub fn with_each(s: State, t: Block) -> State
+    ensures { result ≡ xor_states s (state_of (replicate 5 t)) }
+{
+    s ^ State {
+        h0: t,
+        h1: t,
+        h2: t,
+        h3: t,
+        h4: t,
+    }
+}
+
+// The tweak: words 4 to 7 of a block rotated left by j (4.5).
+pub fn tweak(j: u32, b: Block) -> Block
+    requires { j ≤ 32 }
+    ensures { result ≡ tweak_of j b }
+{
+    Block {
+        a4: b.a4.rotate_left(j),
+        a5: b.a5.rotate_left(j),
+        a6: b.a6.rotate_left(j),
+        a7: b.a7.rotate_left(j),
+        ..b
+    }
+}
+
 // A state with the blocks that w doesn't use zero.
 pub fn used(w: Width, s: State) -> State
     ensures { result ≡ state_of (blocks_in w s) }
 {
-    let h0 = s.h0;
-    let h1 = s.h1;
-    let h2 = s.h2;
-    let h3 = s.h3;
-    let zero = zero();
     match w {
         Width::W3 => State {
-            h0: h0,
-            h1: h1,
-            h2: h2,
-            h3: zero,
-            h4: zero,
+            h3: Block::ZERO,
+            h4: Block::ZERO,
+            ..s
         },
         Width::W4 => State {
-            h0: h0,
-            h1: h1,
-            h2: h2,
-            h3: h3,
-            h4: zero,
+            h4: Block::ZERO,
+            ..s
         },
         Width::W5 => s,
     }

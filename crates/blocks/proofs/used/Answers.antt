@@ -6,11 +6,11 @@ use Rattle.blocks.proofs.used.Goals as goal
 
 pub returns-in-W3 : goal.returns-in-W3
 unfolding blocks_in five block_count state_of
-returns-in-W3 c = rw (c.in-W3.is, c.zero-zero.ensures)
+returns-in-W3 c = rw c.in-W3.is
 
 pub returns-in-W4 : goal.returns-in-W4
 unfolding blocks_in five block_count state_of
-returns-in-W4 c = rw (c.in-W4.is, c.zero-zero.ensures)
+returns-in-W4 c = rw c.in-W4.is
 
 pub returns-in-W5 : goal.returns-in-W5
 unfolding blocks_in five block_count state_of
