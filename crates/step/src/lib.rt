@@ -45,12 +45,12 @@ pub fn mix_word(x0: u32, x4: u32) -> Pair
     ensures { result ≡ mix_word x0 x4 }
 {
     let y4 = x4 ^ x0;
-    let y0 = ((x0 << 2) | (x0 >> 30)) ^ y4;
-    let z4 = ((y4 << 14) | (y4 >> 18)) ^ y0;
-    let z0 = ((y0 << 10) | (y0 >> 22)) ^ z4;
+    let y0 = x0.rotate_left(2) ^ y4;
+    let z4 = y4.rotate_left(14) ^ y0;
+    let z0 = y0.rotate_left(10) ^ z4;
     Pair {
         left: z0,
-        right: (z4 << 1) | (z4 >> 31),
+        right: z4.rotate_left(1),
     }
 }
 

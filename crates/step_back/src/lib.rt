@@ -25,17 +25,14 @@ pub fn sub_crumb(x0: u32, x1: u32, x2: u32, x3: u32) -> Crumb
     }
 }
 
-// MixWord undone: its equations from the last to the first, with rotations to the left by 31, 22, 18 and 30.
+// MixWord undone: its equations from the last to the first, with rotations to the right by 1, 10, 14 and 2.
 pub fn mix_word(left: u32, right: u32) -> Pair
     ensures { result ≡ mix_word_back left right }
 {
-    let z4 = (right << 31) | (right >> 1);
-    let u0 = left ^ z4;
-    let y0 = (u0 << 22) | (u0 >> 10);
-    let u4 = z4 ^ y0;
-    let y4 = (u4 << 18) | (u4 >> 14);
-    let v0 = y0 ^ y4;
-    let x0 = (v0 << 30) | (v0 >> 2);
+    let z4 = right.rotate_right(1);
+    let y0 = (left ^ z4).rotate_right(10);
+    let y4 = (z4 ^ y0).rotate_right(14);
+    let x0 = (y0 ^ y4).rotate_right(2);
     Pair {
         left: x0,
         right: y4 ^ x0,
