@@ -1,25 +1,29 @@
 // The generator of the step constants as one number of 64 bits, t_L || t_R (source, 4.4): its application, and the constant that this gives.
 #![tactic(auto)]
 
-ghost use Rattle.std.specs.Prelude.{◌≡◌, ◌*◌, ◌/◌, ◌%◌, ◌^◌};
+ghost use Rattle.std.specs.Prelude.{◌≡◌, ◌%◌, ◌^◌};
 ghost use Rattle.definition.specs.Constant.{f_l, exchanged};
 
 // 4.4: the generator's polynomial less its heading term.
 pub const MASK: u64 = 0xc4d6496c55c61c8d;
 
-// The mask where the highest bit of x is 1, else 0, without a branch: 4.4's `if (c == 1)`.
-fn masked_whole(x: u64, mask: u64) -> u64
-    ensures { result ≡ x / 2 ^ 63 * mask }
-{
-    std::num::wrapping_sub_u64(0, x >> 63) & mask
-}
+// B-1: the generator at its start, c_L || c_R of each block. No step constant is stored.
+pub const STARTS: [u64; 5] = [
+    0x181cca53380cde06,
+    0x5b6f0876f16f8594,
+    0x7e106ce938979cb0,
+    0xbb62f36492e93c29,
+    0x9a025047cff2a940,
+];
 
-// One application of the generator, by the equations of 4.4: f_L, then the exchange.
+// One application of the generator, by the equations of 4.4: f_L, then the exchange. The mask is all ones where the highest bit of t is 1, else 0,
+// without a branch: 4.4's `if (c == 1)`.
 pub fn turn_whole(t: u64) -> u64
     ensures { result ≡ exchanged (f_l t) }
 {
-    let f = (t << 1) ^ masked_whole(t, MASK);
-    (f << 32) | (f >> 32)
+    let mask = 0u64.wrapping_sub(t >> 63);
+    let f = (t << 1) ^ (mask & MASK);
+    f.rotate_left(32)
 }
 
 // t_r of t_l || t_r.

@@ -4,6 +4,7 @@ use Rattle.std.proofs.Common.{◌≡◌, ℕ, zero, suc, ◌^◌, ◌<◌, true,
 use native.Mathlib.Nat.{div-eq_of_lt}
 use lib.Bits.{or_zero_r}
 use Rattle.definition.specs.declared.Block.{Block}
+use Rattle.definition.specs.declared.Pair.{Pair}
 use Rattle.definition.specs.declared.State.{State}
 use Rattle.definition.specs.declared.Width.{Width}
 use Rattle.definition.specs.declared.Width.TheVariants.{W3, W4, W5}
@@ -14,15 +15,15 @@ use Rattle.definition.specs.Round.{permute_from}
 use Rattle.definition.specs.Width.{block_count}
 use Rattle.definition.specs.State.{five, blocks_in, state_of}
 use Rattle.permutation.specs.declared.Going.{Going}
-use Rattle.permutation.specs.Lanes.{begun, begun_alone, go_on, after, lane, put_lane, lanes_of, stepped, fifth_after, all_after, has_fifth}
+use Rattle.permutation.specs.Lanes.{begun, begun_alone, go_on_pair, after, lane, put_lane, lanes_of, stepped, fifth_after, all_after, has_fifth}
 use Rattle.permutation.proofs.Generator.{eight_steps, eight_alone}
 
 -- a step on the first n lanes
 unfoldable pub run_lanes : (n : ℕ) → List ℕ → List ℕ
 run_lanes zero v = v
-run_lanes (suc n) v = put_lane n (run_lanes n v) (go_on (lane n (run_lanes n v)))
+run_lanes (suc n) v = put_lane n (run_lanes n v) (go_on_pair (lane n (run_lanes n v)))
 
-pub all_lanes : (p q r s : Going) → run_lanes 4 (lanes_of p q r s) ≡ stepped (lanes_of p q r s)
+pub all_lanes : (p q r s : Going Pair) → run_lanes 4 (lanes_of p q r s) ≡ stepped (lanes_of p q r s)
 unfolding run_lanes stepped lanes_of
 all_lanes p q r s = refl
 

@@ -10,35 +10,35 @@ use Rattle.definition.specs.Constant.{f_l, exchanged, initial}
 use Rattle.definition.specs.AppendixB.{halves_of, pseudo_step}
 use Rattle.definition.specs.Permutation.{step}
 use Rattle.permutation.specs.declared.Going.{Going}
-use Rattle.permutation.specs.declared.Alone.{Alone}
 
 -- Q_j before its first step: c_j,L and c_j,R of B-1, and the block; and with c_j,L || c_j,R as one number
-abbrev pub begun : (j : ℕ) → Block → Going
+abbrev pub begun : (j : ℕ) → Block → Going Pair
 begun j a = record { t = halves_of (initial j); a = a }
 
-abbrev pub begun_alone : (j : ℕ) → Block → Alone
+abbrev pub begun_alone : (j : ℕ) → Block → Going ℕ
 begun_alone j a = record { t = initial j; a = a }
 
 -- one step: two applications of the generator, each of which gives a constant in its t_r
-unfoldable pub go_on : Going → Going
-go_on g =
-    let t1 : Pair = pseudo_step g.t in
-    let t2 : Pair = pseudo_step t1 in
-    record { t = t2; a = step (record { left = t1.right; right = t2.right }) g.a }
+unfoldable pub go_on : {G : Type 0} → (turned : G → G) → (right : G → ℕ) → Going G → Going G
+go_on {G} turned right g =
+    let t1 : G = turned g.t in
+    let t2 : G = turned t1 in
+    record { t = t2; a = step (record { left = right t1; right = right t2 }) g.a }
 
-unfoldable pub go_on_alone : Alone → Alone
-go_on_alone g =
-    let t1 : ℕ = exchanged (f_l g.t) in
-    let t2 : ℕ = exchanged (f_l t1) in
-    record { t = t2; a = step (record { left = t1 % 2 ^ 32; right = t2 % 2 ^ 32 }) g.a }
+-- with the generator in two words, and in one number
+abbrev pub go_on_pair : Going Pair → Going Pair
+go_on_pair = go_on pseudo_step (λ (t : Pair). t.right)
+
+abbrev pub go_on_alone : Going ℕ → Going ℕ
+go_on_alone = go_on (λ (t : ℕ). exchanged (f_l t)) (λ (t : ℕ). t % 2 ^ 32)
 
 -- the first i steps
-unfoldable pub after : (i : ℕ) → Going → Going
+unfoldable pub after : (i : ℕ) → Going Pair → Going Pair
 after zero g = g
-after (suc i) g = go_on (after i g)
+after (suc i) g = go_on_pair (after i g)
 
 -- the j-th of four
-abbrev pub lane : ℕ → List ℕ → Going
+abbrev pub lane : ℕ → List ℕ → Going Pair
 lane j v =
     record {
       t = record { left = slice_index v (32 + j); right = slice_index v (36 + j) };
@@ -56,7 +56,7 @@ lane j v =
     }
 
 -- the j-th put in its lane
-abbrev pub put_lane : ℕ → List ℕ → Going → List ℕ
+abbrev pub put_lane : ℕ → List ℕ → Going Pair → List ℕ
 put_lane j v g =
     set
     (set
@@ -79,7 +79,7 @@ put_lane j v g =
     g.t.right
 
 -- the lanes of four
-unfoldable pub lanes_of : Going → Going → Going → Going → List ℕ
+unfoldable pub lanes_of : (p q r s : Going Pair) → List ℕ
 lanes_of p q r s =
     let a : Block = p.a in
     let b : Block = q.a in
@@ -99,14 +99,14 @@ lanes_of p q r s =
 
 -- one step on each of the four
 unfoldable pub stepped : List ℕ → List ℕ
-stepped v = lanes_of (go_on (lane 0 v)) (go_on (lane 1 v)) (go_on (lane 2 v)) (go_on (lane 3 v))
+stepped v = lanes_of (go_on_pair (lane 0 v)) (go_on_pair (lane 1 v)) (go_on_pair (lane 2 v)) (go_on_pair (lane 3 v))
 
 -- one step of a fifth, where there is one, and the first i steps
-abbrev pub step_fifth : Bool → Alone → Alone
+abbrev pub step_fifth : Bool → Going ℕ → Going ℕ
 step_fifth true g = go_on_alone g
 step_fifth false g = g
 
-unfoldable pub fifth_after : ℕ → Bool → Alone → Alone
+unfoldable pub fifth_after : ℕ → Bool → Going ℕ → Going ℕ
 fifth_after zero fifth g = g
 fifth_after (suc i) fifth g = step_fifth fifth (fifth_after i fifth g)
 

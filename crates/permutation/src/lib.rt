@@ -2,97 +2,137 @@
 // blocks are stepped side by side.
 #![tactic(auto)]
 
-ghost use Rattle.std.specs.Prelude.{◌≡◌, ◌*◌, ◌/◌, ◌^◌, ◌<◌};
-ghost use Rattle.definition.specs.Permutation.{tweak as tweak_of};
+ghost use Rattle.std.specs.Prelude.{◌≡◌, ℕ, ◌%◌, ◌^◌, ◌<◌, ⊤, refl};
+ghost use Rattle.definition.specs.declared.Pair.{Pair};
+ghost use Rattle.definition.specs.Constant.{f_l, exchanged};
 ghost use Rattle.definition.specs.Round.{permute_from};
 ghost use Rattle.definition.specs.State.{blocks_in, state_of};
-ghost use Rattle.definition.specs.AppendixB.{pseudo_step};
-ghost use Rattle.permutation.specs.Lanes.{go_on, go_on_alone, lane as lane_of, put_lane, lanes_of, stepped, step_fifth, all_after, has_fifth};
+ghost use Rattle.definition.specs.AppendixB.{halves_of, pseudo_step};
+ghost use Rattle.definition.proofs.Constant.{pseudo_step_lem};
+ghost use Rattle.permutation.specs.Lanes.{go_on as gone_on, lane as lane_of, put_lane, lanes_of, stepped, step_fifth, all_after};
 
+use blocks::{tweak, used};
 use definition::{Block, Pair, State, Width};
+use generator::{MASK, STARTS};
 
-// B-1: the generator at its start, c_L of blocks 0 to 3, then c_R of them; and c_L || c_R of block 4. No step constant is stored.
-const STARTS: [u32; 8] = [
-    0x181cca53, 0x5b6f0876, 0x7e106ce9, 0xbb62f364, 0x380cde06, 0xf16f8594, 0x38979cb0, 0x92e93c29,
+// The generator at its start, c_L of blocks 0 to 3, then c_R of them.
+const STARTS_4: [u32; 8] = [
+    (STARTS[0] >> 32) as u32,
+    (STARTS[1] >> 32) as u32,
+    (STARTS[2] >> 32) as u32,
+    (STARTS[3] >> 32) as u32,
+    (STARTS[0] % 4294967296) as u32,
+    (STARTS[1] % 4294967296) as u32,
+    (STARTS[2] % 4294967296) as u32,
+    (STARTS[3] % 4294967296) as u32,
 ];
 
-const START_4: u64 = 0x9a025047cff2a940;
-
 // 4.4: the halves for t_l and t_r of the generator's polynomial less its heading term.
-const MASK_L: u32 = 0xc4d6496c;
+const MASK_L: u32 = (MASK >> 32) as u32;
 
-const MASK_R: u32 = 0x55c61c8d;
+const MASK_R: u32 = (MASK % 4294967296) as u32;
 
-// One of four Q_j on their way: the generator's t_l and t_r, and the block.
-#[derive(Clone, Copy)]
-struct Going {
-    t: Pair,
-    a: Block,
+// The generator of the step constants (4.4), t_l and t_r: two words, or one number t_l || t_r, which one register holds.
+trait StepConstants {
+    ghost turned: { Self → Self };
+
+    ghost right: { Self → ℕ };
+
+    ghost halves: { Self → Pair };
+
+    ghost fits: { Self → Type 0 };
+
+    // One application: f_L, then the exchange.
+    fn turn(self) -> Self
+        ensures { result ≡ turned self };
+
+    // t_r, after an application the next step constant.
+    fn right(self) -> u32
+        ensures { result ≡ right self };
+
+    // Its halves go on by the pseudo code of 4.4, and t_r is the right one.
+    ghost by_pseudo_code: { (t : Self) → fits t → pseudo_step (halves t) ≡ halves (turned t) };
+
+    ghost right_half: { (t : Self) → right t ≡ (halves t).right };
 }
 
-// Q_4 on its way, alone: t_l || t_r in one number, which one register holds, and the block.
-#[derive(Clone, Copy)]
-struct Alone {
-    t: u64,
-    a: Block,
-}
+impl StepConstants for Pair {
+    ghost turned = { pseudo_step };
 
-// The mask where the highest bit of x is 1, else 0, without a branch: 4.4's `if (c == 1)`.
-fn masked(x: u32, mask: u32) -> u32
-    ensures { result ≡ x / 2 ^ 31 * mask }
-{
-    std::num::wrapping_sub_u32(0, x >> 31) & mask
-}
+    ghost right = { λ t. t.right };
 
-// One application of the generator to two words, by the pseudo code of 4.4: f_L, then the exchange.
-fn turn(t: Pair) -> Pair
-    ensures { result ≡ pseudo_step t }
-{
-    let tl = (t.left << 1) | (t.right >> 31);
-    let tr = t.right << 1;
-    Pair {
-        left: tr ^ masked(t.left, MASK_R),
-        right: tl ^ masked(t.left, MASK_L),
+    ghost halves = { λ t. t };
+
+    ghost fits = { λ t. ⊤ };
+
+    // The mask is all ones where the highest bit of t_l is 1, else 0, without a branch: 4.4's `if (c == 1)`.
+    fn turn(self) -> Pair {
+        let mask = 0u32.wrapping_sub(self.left >> 31);
+        let tl = (self.left << 1) | (self.right >> 31);
+        let tr = self.right << 1;
+        Pair {
+            left: tr ^ (mask & MASK_R),
+            right: tl ^ (mask & MASK_L),
+        }
     }
+
+    fn right(self) -> u32 {
+        self.right
+    }
+
+    ghost by_pseudo_code = { λ t h. refl };
+
+    ghost right_half = { λ t. refl };
+}
+
+impl StepConstants for u64 {
+    ghost turned = { λ t. exchanged (f_l t) };
+
+    ghost right = { λ t. t % 2 ^ 32 };
+
+    ghost halves = { halves_of };
+
+    ghost fits = { λ t. t < 2 ^ 64 };
+
+    fn turn(self) -> u64 {
+        generator::turn_whole(self)
+    }
+
+    fn right(self) -> u32 {
+        generator::right(self)
+    }
+
+    ghost by_pseudo_code = { pseudo_step_lem };
+
+    ghost right_half = { λ t. refl };
+}
+
+// A Q_j on its way: the generator and the block.
+#[derive(Clone, Copy)]
+struct Going<G> {
+    t: G,
+    a: Block,
 }
 
 // One step of Q_j: the generator applied twice, and its t_r each time the next constant.
-fn go_on(g: Going) -> Going
-    ensures { result ≡ go_on g }
+fn go_on<G: StepConstants + Copy>(g: Going<G>) -> Going<G>
+    ensures { result ≡ gone_on G.turned G.right g }
 {
-    let t0 = g.t;
-    let a = g.a;
-    let t1 = turn(t0);
-    let t2 = turn(t1);
+    let t1 = g.t.turn();
+    let t2 = t1.turn();
     let c = Pair {
-        left: t1.right,
-        right: t2.right,
+        left: t1.right(),
+        right: t2.right(),
     };
     Going {
         t: t2,
-        a: step::step(c, a),
-    }
-}
-
-fn go_on_alone(g: Alone) -> Alone
-    ensures { result ≡ go_on_alone g }
-{
-    let a = g.a;
-    let t1 = generator::turn_whole(g.t);
-    let t2 = generator::turn_whole(t1);
-    let c = Pair {
-        left: generator::right(t1),
-        right: generator::right(t2),
-    };
-    Alone {
-        t: t2,
-        a: step::step(c, a),
+        a: step::step(c, g.a),
     }
 }
 
 // Lanes: of four Q_j on their way, word k of block j stands at 4k + j, its t_l at 32 + j and its t_r at 36 + j, so that a step over the
 // four j is one vector operation for each of the step's. This is the j-th.
-fn lane(v: &[u32; 40], j: usize) -> Going
+fn lane(v: &[u32; 40], j: usize) -> Going<Pair>
     requires { j < 4 }
     ensures { result ≡ lane_of j v.now }
 {
@@ -115,7 +155,7 @@ fn lane(v: &[u32; 40], j: usize) -> Going
 }
 
 // The j-th put in its lane.
-fn put_lane(v: &mut [u32; 40], j: usize, g: Going)
+fn put_lane(v: &mut [u32; 40], j: usize, g: Going<Pair>)
     requires { j < 4 }
     ensures { v.new ≡ put_lane j v.old g }
 {
@@ -133,58 +173,29 @@ fn put_lane(v: &mut [u32; 40], j: usize, g: Going)
     v[36 + j] = t.right;
 }
 
-// One step on the j-th of the four.
-fn step_lane(v: &mut [u32; 40], j: usize)
-    requires { j < 4 }
-    ensures { v.new ≡ put_lane j v.old (go_on (lane_of j v.old)) }
-{
-    let g = go_on(lane(v, j));
-    put_lane(v, j, g);
-}
-
 // One step on all four.
 fn step_lanes(v: &mut [u32; 40])
     requires { v.old ≡ lanes_of (lane_of 0 v.old) (lane_of 1 v.old) (lane_of 2 v.old) (lane_of 3 v.old) }
     ensures { v.new ≡ stepped v.old }
 {
     for j in 0..4 {
-        step_lane(v, j);
-    }
-}
-
-// The tweak of block j, for j from 1 on: words 4 to 7 rotated left by j.
-fn tweak(j: u32, b: Block) -> Block
-    requires { (0 < j) × (j < 32) }
-    ensures { result ≡ tweak_of j b }
-{
-    let k = 32 - j;
-    Block {
-        a0: b.a0,
-        a1: b.a1,
-        a2: b.a2,
-        a3: b.a3,
-        a4: (b.a4 << j) | (b.a4 >> k),
-        a5: (b.a5 << j) | (b.a5 >> k),
-        a6: (b.a6 << j) | (b.a6 >> k),
-        a7: (b.a7 << j) | (b.a7 >> k),
+        let g = go_on(lane(v, j));
+        put_lane(v, j, g);
     }
 }
 
 // One step of Q_4 on the fifth block, where there is one.
-fn step_fifth(fifth: bool, g: Alone) -> Alone
+fn step_fifth(fifth: bool, g: Going<u64>) -> Going<u64>
     ensures { result ≡ step_fifth fifth g }
 {
-    if fifth {
-        return go_on_alone(g);
-    }
-    g
+    if fifth { go_on(g) } else { g }
 }
 
 // The eight steps, from the generators' starts: four blocks as lanes, and the fifth, where there is one, beside them.
 fn all_steps(fifth: bool, t: State) -> State
     ensures { result ≡ all_after 8 fifth t }
 {
-    let k = STARTS;
+    let k = STARTS_4;
     let t0 = t.h0;
     let t1 = t.h1;
     let t2 = t.h2;
@@ -195,37 +206,20 @@ fn all_steps(fifth: bool, t: State) -> State
         t1.a3, t2.a3, t3.a3, t0.a4, t1.a4, t2.a4, t3.a4, t0.a5, t1.a5, t2.a5, t3.a5, t0.a6, t1.a6,
         t2.a6, t3.a6, t0.a7, t1.a7, t2.a7, t3.a7, k[0], k[1], k[2], k[3], k[4], k[5], k[6], k[7],
     ];
-    let mut e = Alone { t: START_4, a: t4 };
-    for i in 0..8usize {
+    let mut e = Going {
+        t: STARTS[4],
+        a: t4,
+    };
+    for _ in 0..8usize {
         step_lanes(&mut v);
         e = step_fifth(fifth, e);
     }
-    let g0 = lane(&v, 0);
-    let g1 = lane(&v, 1);
-    let g2 = lane(&v, 2);
-    let g3 = lane(&v, 3);
-    let h0 = g0.a;
-    let h1 = g1.a;
-    let h2 = g2.a;
-    let h3 = g3.a;
-    let h4 = e.a;
     State {
-        h0: h0,
-        h1: h1,
-        h2: h2,
-        h3: h3,
-        h4: h4,
-    }
-}
-
-// Whether there is a fifth block.
-fn has_fifth(w: Width) -> bool
-    ensures { result ≡ has_fifth w }
-{
-    match w {
-        Width::W3 => false,
-        Width::W4 => false,
-        Width::W5 => true,
+        h0: lane(&v, 0).a,
+        h1: lane(&v, 1).a,
+        h2: lane(&v, 2).a,
+        h3: lane(&v, 3).a,
+        h4: e.a,
     }
 }
 
@@ -233,17 +227,12 @@ fn has_fifth(w: Width) -> bool
 pub fn permute(w: Width, s: State) -> State
     ensures { result ≡ state_of (permute_from 0 (blocks_in w s)) }
 {
-    let h0 = s.h0;
-    let h1 = tweak(1, s.h1);
-    let h2 = tweak(2, s.h2);
-    let h3 = tweak(3, s.h3);
-    let h4 = tweak(4, s.h4);
     let t = State {
-        h0: h0,
-        h1: h1,
-        h2: h2,
-        h3: h3,
-        h4: h4,
+        h1: tweak(1, s.h1),
+        h2: tweak(2, s.h2),
+        h3: tweak(3, s.h3),
+        h4: tweak(4, s.h4),
+        ..s
     };
-    blocks::used(w, all_steps(has_fifth(w), t))
+    used(w, all_steps(w == Width::W5, t))
 }

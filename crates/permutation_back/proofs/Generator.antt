@@ -6,10 +6,10 @@ use native.Mathlib.Nat.{mul-mod_left}
 use lib.Bits.{bit_xor, bit_and, bit_or, xor_lt, xor_mod, xor_zero_l, or_shifted}
 use lib.Pow.{mod-pow-add, shl-shr}
 use Rattle.definition.specs.declared.Block.{Block}
-use Rattle.definition.specs.Constant.{g, f_l, exchanged, initial, constants_from}
+use Rattle.definition.specs.Constant.{g, f_l, exchanged, constants_from}
 use Rattle.definition.proofs.Constant.{masks, exchanged-words, f_64, still_64, right_half}
 use Rattle.generator.specs.Turns.{applied}
-use Rattle.generator.proofs.Turns.{masks_out, initial_64, applied_64}
+use Rattle.generator.proofs.Turns.{masks_out, applied_64}
 use Rattle.back_definition.specs.Step.{step_back, steps_back}
 use Rattle.back_definition.proofs.Words.{xor-back}
 use Rattle.permutation_back.specs.Generator.{f_l_back}
@@ -70,27 +70,27 @@ unfolding exchanged
 exchanged_64 t h = joined_64 (t % 2 ^ 32) (t / 2 ^ 32) (omega arith) (shr_lt 32 32 h)
 
 -- the same as the machine's operations give it: a bit taken from 0 is a mask
-pub by_mask : (f r : ℕ) → f < 2 ^ 64 → r < 2 ^ 64 → (r + f % 2) % 2 ^ 64 ≡ 0
-    → bit_or (f % 2 * 2 ^ 63 % 2 ^ 64) (bit_xor f (bit_and r 0xc4d6496c55c61c8d) / 2) ≡ f_l_back f
+pub by_mask : (f : ℕ) → f < 2 ^ 64
+    → bit_or (f % 2 * 2 ^ 63 % 2 ^ 64) (bit_xor f (bit_and ((0 + (2 ^ 64 - f % 2)) % 2 ^ 64) 0xc4d6496c55c61c8d) / 2) ≡ f_l_back f
 unfolding f_l_back
-by_mask f r hf hr e =
+by_mask f hf =
     let two : f % 2 < 2 = mod-lt f (zero-lt-suc 1) in
-    let m : bit_and r 0xc4d6496c55c61c8d ≡ f % 2 * 0xc4d6496c55c61c8d = masks_out 64 r (f % 2) 0xc4d6496c55c61c8d two hr mask_64 e in
-    rw (m, mod-eq_of_lt (top_64 (f % 2) two), masks)
+    rw (masks_out 64 (f % 2) 0xc4d6496c55c61c8d two mask_64, mod-eq_of_lt (top_64 (f % 2) two), masks)
     (or_shifted (f % 2) 63 _ (shr_lt 63 1 (xor_lt 64 f _ hf (masked_64 (f % 2) two))))
 
 -- the loop's body: two applications undone, and one step with what they gave
-pub once_more : (i j t t1 t2 : ℕ) (a b r : Block) → i < 8 → t ≡ applied (2 * (8 - i)) (initial j) → a ≡ steps_back (constants_from i t) b
+pub once_more : (i start t t1 t2 : ℕ) (a b r : Block) → start < 2 ^ 64 → i < 8 → t ≡ applied (2 * (8 - i)) start
+    → a ≡ steps_back (constants_from i t) b
     → t1 ≡ f_l_back (exchanged t) → t2 ≡ f_l_back (exchanged t1) → r ≡ step_back (record { left = t1 % 2 ^ 32; right = t % 2 ^ 32 }) a
-    → (t2 ≡ applied (2 * (8 - (i + 1))) (initial j)) × (r ≡ steps_back (constants_from (i + 1) t2) b)
+    → (t2 ≡ applied (2 * (8 - (i + 1))) start) × (r ≡ steps_back (constants_from (i + 1) t2) b)
 unfolding applied
-once_more i j t t1 t2 a b r h et ea e1 e2 er =
+once_more i start t t1 t2 a b r k h et ea e1 e2 er =
     let m : ℕ = 2 * (8 - (i + 1)) in
-    let s : ℕ = applied m (initial j) in
-    let hs : s < 2 ^ 64 = applied_64 m (initial j) (initial_64 j) in
+    let s : ℕ = applied m start in
+    let hs : s < 2 ^ 64 = applied_64 m start k in
     let u1 : ℕ = exchanged (f_l s) in
     let n : 2 * (8 - i) ≡ suc (suc m) = omega arith in
-    let pt : t ≡ exchanged (f_l u1) = et ∙ ap (λ (n : ℕ). applied n (initial j)) n in
+    let pt : t ≡ exchanged (f_l u1) = et ∙ ap (λ (n : ℕ). applied n start) n in
     let p1 : t1 ≡ u1 = e1 ∙ ap (λ (x : ℕ). f_l_back (exchanged x)) pt ∙ turned u1 (still_64 s hs) in
     let p2 : t2 ≡ s = e2 ∙ ap (λ (x : ℕ). f_l_back (exchanged x)) p1 ∙ turned s hs in
     let q : step_back (record { left = t1 % 2 ^ 32; right = t % 2 ^ 32 }) a ≡ steps_back (constants_from (suc i) s) b = rw (ea, p1, pt) (step_more i s b hs) in

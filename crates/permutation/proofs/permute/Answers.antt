@@ -1,8 +1,18 @@
 -- `permutation::permute` meets its contract: the tweaks, eight steps, and the blocks that w uses.
 -- Assumes nothing.
-use Rattle.std.proofs.Common.{arith}
+use Rattle.std.proofs.Common.{◌≡◌, refl, arith}
+use denote.Enum.Bare.{sameb}
+use Rattle.definition.specs.contracts.Width.{the_type}
+use Rattle.definition.specs.declared.Width.{Width}
+use Rattle.definition.specs.declared.Width.TheVariants.{W3, W4, W5}
+use Rattle.permutation.specs.Lanes.{has_fifth}
 use Rattle.permutation.proofs.Lanes.{tweak-zero, all_permuted}
 use Rattle.permutation.proofs.permute.Goals as goal
+
+fifth : (w : Width) → sameb the_type w W5 ≡ has_fifth w
+fifth W3 = refl
+fifth W4 = refl
+fifth W5 = refl
 
 pub returns : goal.returns
 returns c =
@@ -13,10 +23,11 @@ returns c =
     simp (
       c.used.ensures,
       c.all_steps.ensures,
-      c.has_fifth.ensures,
-      c.tweak-h4.ensures,
-      c.tweak-h3.ensures,
-      c.tweak-h2.ensures,
-      c.tweak-h1.ensures,
+      c.eq.ensures,
+      fifth c.args.w,
+      c.tweak-4.ensures,
+      c.tweak-3.ensures,
+      c.tweak-2.ensures,
+      c.tweak.ensures,
     )
     (all_permuted c.args.w s zero)

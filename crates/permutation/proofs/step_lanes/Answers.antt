@@ -13,7 +13,7 @@ pub loop-j-preserved : goal.loop-j-preserved
 unfolding run_lanes
 loop-j-preserved c =
     let j = c.loop-j.j in
-    (omega arith, rw (add-one j, ← c.loop-j.invariant.1) c.step_lane.ensures)
+    (omega arith, rw (add-one j, ← c.loop-j.invariant.1, c.put_lane.ensures, c.go_on-g.ensures, c.lane.ensures))
 
 pub returns : goal.returns
 returns c =
