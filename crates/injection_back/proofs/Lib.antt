@@ -1,2 +1,3 @@
 -- Laws of the injection undone.
+pub mod Rings
 pub mod Parts

@@ -1,19 +1,26 @@
 -- The parts, over five blocks by value, are those of the lists.
 -- Assumes nothing.
 use mathlib.Core.Path.{◌≡◌, refl, ◌∙◌}
-use mathlib.Core.List.{List, reverse}
+use mathlib.Core.List.{List, [], ◌∷◌}
 use Prim.Native.Nat.{ℕ}
 use Rattle.definition.specs.declared.Block.{Block}
 use Rattle.definition.specs.declared.State.{State}
 use Rattle.definition.specs.declared.Width.{Width}
 use Rattle.definition.specs.declared.Width.TheVariants.{W3, W4, W5}
-use Rattle.definition.specs.Block.{◌⊕◌, zero_block}
+use Rattle.definition.specs.Block.{◌⊕◌}
 use Rattle.definition.specs.Field.{double, times}
 use Rattle.definition.specs.Width.{block_count}
-use Rattle.definition.specs.State.{five, blocks_in, state_of}
+use Rattle.definition.specs.State.{five, xor_states, blocks_in, state_of}
 use Rattle.definition.proofs.Xor.{⊕-zero}
-use Rattle.back_definition.specs.Injection.{less_message, from_last, unring, ring4, ring5, sum_on, total, unspread, equations_back, inject_back}
+use Rattle.back_definition.specs.Injection.{less_message, sum_on, total, unspread, equations_back, inject_back}
 use Rattle.injection_back.specs.Parts.{inverse_at, unrings_at}
+
+-- the multiples of M are what is taken from five blocks
+pub less_all : (s : State) (m : Block)
+    → xor_states s (state_of (m ∷ double m ∷ double (double m) ∷ double (double (double m)) ∷ double (double (double (double m))) ∷ []))
+    ≡ state_of (less_message (five s) m)
+unfolding five state_of less_message
+less_all s m = refl
 
 -- 2^j M is taken from the first w of five
 pub less_used : (w : Width) (s : State) (m : Block) → blocks_in w (state_of (less_message (five s) m)) ≡ less_message (blocks_in w s) m
@@ -47,25 +54,3 @@ unfolding inject_back equations_back unrings_at
 both_parts W3 x m = refl
 both_parts W4 x m = refl
 both_parts W5 x m = refl
-
--- what stands in five blocks by value is found in them
-pub ring4-used : (s : State) → blocks_in W4 (state_of (unring ring4 (blocks_in W4 s))) ≡ unring ring4 (blocks_in W4 s)
-unfolding blocks_in five state_of block_count unring from_last
-ring4-used s = refl
-
-pub ring5-used : (s : State) → five (state_of (unring ring5 (five s))) ≡ unring ring5 (five s)
-unfolding five state_of unring from_last
-ring5-used s = refl
-
-pub reversed-used : (s : State) → five (state_of (reverse (five s))) ≡ reverse (five s)
-unfolding five state_of
-reversed-used s = refl
-
-pub all_used : (s : State) → blocks_in W5 s ≡ five s
-unfolding blocks_in five block_count
-all_used s = refl
-
--- nothing past the last block
-pub nothing-twice : zero_block ⊕ double zero_block ≡ zero_block
-unfolding ◌⊕◌ double
-nothing-twice = refl

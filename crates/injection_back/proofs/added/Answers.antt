@@ -21,7 +21,7 @@ without n b t h =
     rw e (sym (zero-⊕ t))
 
 pub returns-then-bits-eq1 : goal.returns-then-bits-eq1
-returns-then-bits-eq1 c = c.xor.ensures ∙ with_it _ _ _ c.if-bits-eq1.true
+returns-then-bits-eq1 c = c.bitxor.ensures ∙ with_it _ _ _ c.if-bits-eq1.true
 
-pub returns : goal.returns
-returns c = without _ _ _ c.if-bits-eq1.false
+pub returns-else-bits-eq1 : goal.returns-else-bits-eq1
+returns-else-bits-eq1 c = without _ _ _ c.if-bits-eq1.false

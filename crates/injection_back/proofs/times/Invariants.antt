@@ -5,7 +5,4 @@ use Rattle.definition.specs.Field.{times_to}
 use Rattle.injection_back.proofs.times.Given as goal
 
 abbrev pub invariant-loop-i : goal.invariant-loop-i
-invariant-loop-i l = (l.i ≤ 8) × (l.r ≡ times_to l.i (l.c / 2 ^ (8 - l.i)) l.b)
-
-abbrev pub decreases-loop-i : goal.decreases-loop-i
-decreases-loop-i l = 8 - l.i
+invariant-loop-i l = (l.i ≤ 8) × (l.r ≡ times_to (8 - l.i) (l.c / 2 ^ l.i) l.b)
