@@ -15,15 +15,10 @@ use Rattle.definition.proofs.Xor.{⊕-zero}
 use Rattle.back_definition.specs.Injection.{less_message, sum_on, total, unspread, equations_back, inject_back}
 use Rattle.injection_back.specs.Parts.{inverse_at, unrings_at}
 
--- the multiples of M are what is taken from five blocks
-pub less_all : (s : State) (m : Block)
-    → xor_states s (state_of (m ∷ double m ∷ double (double m) ∷ double (double (double m)) ∷ double (double (double (double m))) ∷ []))
-    ≡ state_of (less_message (five s) m)
-unfolding five state_of less_message
-less_all s m = refl
-
--- 2^j M is taken from the first w of five
-pub less_used : (w : Width) (s : State) (m : Block) → blocks_in w (state_of (less_message (five s) m)) ≡ less_message (blocks_in w s) m
+-- 2^j M taken from five blocks is taken from the first w of them
+pub less_used : (w : Width) (s : State) (m : Block)
+    → (let m2 : Block = double (double m) in
+    blocks_in w (xor_states s (state_of (m ∷ double m ∷ m2 ∷ double m2 ∷ double (double m2) ∷ [])))) ≡ less_message (blocks_in w s) m
 unfolding blocks_in five state_of block_count less_message
 less_used W3 s m = refl
 less_used W4 s m = refl
