@@ -1,14 +1,19 @@
 -- Reading a whole block, and writing where there is room and where there is none.
 -- Assumes nothing.
-use mathlib.Core.Path.{◌≡◌, ap, ◌∙◌}
+use mathlib.Core.Path.{◌≡◌, sym, ap, ◌∙◌}
 use mathlib.Core.List.{List, [], ◌++◌}
-use Prim.Native.Nat.{ℕ, ◌+◌, ◌<◌, ◌≤◌}
+use Prim.Native.Nat.{ℕ, ◌+◌, ◌*◌, ◌<◌, ◌≤◌}
 use native.Mathlib.Decide.{dec_le}
 use native.Mathlib.Omega.{arith}
 use borrow.Author.Tests.{le-leb, lt-leb}
-use lib.ListN.{length, length-append}
-use Rattle.definition.specs.Block.{block_of}
+use borrow.Rule.Slice.PartMut.{put_mid}
+use lib.ListN.{length, take, length-append}
+use lib.Seq.{drop-drop}
+use Rattle.std.proofs.Common.{append_assoc}
+use Rattle.std.proofs.lemmas.List.{get_or-take}
+use Rattle.definition.specs.Block.{word_at, block_of}
 use Rattle.definition.specs.Buffer.{overwrite_at, overwrite}
+use Rattle.definition.proofs.Padding.{by_words}
 use Rattle.definition.proofs.Buffer.{overwrite_at-more, overwrite_at-none, length-overwrite_at}
 use Rattle.octets.specs.Total.{block_when, first_block, write_when, write_at}
 
@@ -17,10 +22,30 @@ pub whole-block : (x : List ℕ) → 32 ≤ length x → first_block x ≡ block
 unfolding first_block block_when
 whole-block x h = rw (le-leb 32 (length x) h)
 
+-- a word is read from the bytes up to its end, and a block from the first 32
+pub word-front : (n k : ℕ) (x : List ℕ) → 4 * k + 4 ≤ n → word_at (take n x) k ≡ word_at x k
+unfolding word_at
+word-front n k x h =
+    rw (
+      get_or-take n x (4 * k) 0 (omega arith),
+      get_or-take n x (4 * k + 1) 0 (omega arith),
+      get_or-take n x (4 * k + 2) 0 (omega arith),
+      get_or-take n x (4 * k + 3) 0 (omega arith),
+    )
+
+pub block-front : (x : List ℕ) → block_of (take 32 x) ≡ block_of x
+unfolding block_of
+block-front x = by_words (word_at (take 32 x)) (word_at x) (λ k l. word-front 32 k x (omega arith))
+
 -- where there is room
 pub write_at_lem : (i : ℕ) (p l : List ℕ) → i + length p ≤ length l → write_at i p l ≡ overwrite_at i p l
 unfolding write_at write_when
 write_at_lem i p l h = rw (le-leb (i + length p) (length l) h)
+
+-- what is copied into the part from place i on stands there
+pub put_part : (i k : ℕ) (p l q : List ℕ) → k ≡ length p → i + length p ≤ length l → q ≡ p → put_mid i k l q ≡ write_at i p l
+unfolding overwrite_at
+put_part i k p l q m h e = rw (e, m, drop-drop (length p) i l, ← append_assoc) (sym (write_at_lem i p l h))
 
 -- where there is none
 pub write_not : (i : ℕ) (p l : List ℕ) → length l < i + length p → write_at i p l ≡ l

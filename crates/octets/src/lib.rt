@@ -9,17 +9,11 @@ ghost use Rattle.octets.specs.Total.{first_block, first_word, write_at};
 
 use definition::Block;
 
-fn word(x0: u8, x1: u8, x2: u8, x3: u8) -> u32
-    ensures { result ≡ word_of x0 x1 x2 x3 }
-{
-    (x0 as u32) * 16777216 + (x1 as u32) * 65536 + (x2 as u32) * 256 + (x3 as u32)
-}
-
 fn word_at(t: &[u8], i: usize) -> u32
     requires { i + 4 ≤ length t.now }
     ensures { result ≡ word_of (get_or t.now i 0) (get_or t.now (i + 1) 0) (get_or t.now (i + 2) 0) (get_or t.now (i + 3) 0) }
 {
-    word(t[i], t[i + 1], t[i + 2], t[i + 3])
+    u32::from_be_bytes([t[i], t[i + 1], t[i + 2], t[i + 3]])
 }
 
 // The first 32 bytes of a slice as a block, where there are as many: what the loop over a message's blocks calls.
@@ -43,36 +37,28 @@ pub fn full_block(t: &[u8]) -> Block
 pub fn block(t: &[u8]) -> Block
     ensures { result ≡ first_block t.now }
 {
-    if t.len() < 32 {
-        return blocks::zero();
+    match t.first_chunk::<32>() {
+        Some(x) => full_block(x),
+        None => blocks::zero(),
     }
-    full_block(t)
 }
 
 // The first word of a slice, or zero where there are fewer than four bytes.
 pub fn first_word(t: &[u8]) -> u32
     ensures { result ≡ first_word t.now }
 {
-    if t.len() < 4 {
-        return 0;
+    match t.first_chunk() {
+        Some(x) => u32::from_be_bytes(*x),
+        None => 0,
     }
-    word_at(t, 0)
 }
 
 // Bytes, one after the other, from place i on; nothing where there is no room for them.
 pub fn put_bytes(b: &mut [u8], i: usize, t: &[u8])
     ensures { b.new ≡ write_at i t.now b.old }
 {
-    if b.len() < i {
-        return;
-    }
-    if b.len() - i < t.len() {
-        return;
-    }
-    let mut j = 0;
-    while j < t.len() {
-        b[i + j] = t[j];
-        j += 1;
+    if i <= b.len() && t.len() <= b.len() - i {
+        b[i..i + t.len()].copy_from_slice(t);
     }
 }
 
@@ -89,30 +75,16 @@ pub fn pasted(p: [u8; 32], i: usize, t: &[u8]) -> [u8; 32]
 pub fn put_word(out: &mut [u8], i: usize, a: u32)
     ensures { out.new ≡ write_at i (bytes_of a) out.old }
 {
-    if out.len() < 4 {
-        return;
-    }
-    if out.len() - 4 < i {
-        return;
-    }
-    out[i] = (a / 16777216 % 256) as u8;
-    out[i + 1] = (a / 65536 % 256) as u8;
-    out[i + 2] = (a / 256 % 256) as u8;
-    out[i + 3] = (a % 256) as u8;
+    put_bytes(out, i, &a.to_be_bytes());
 }
 
 // Words, one after the other, from place i on; nothing where there is no room for them.
 pub fn put_words(out: &mut [u8], i: usize, ws: &[u32])
     ensures { out.new ≡ write_at i (bytes_of_all ws.now) out.old }
 {
-    let n = ws.len();
-    if out.len() < i {
-        return;
-    }
-    if (out.len() - i) / 4 < n {
-        return;
-    }
-    for k in 0..n {
-        put_word(out, i + 4 * k, ws[k]);
+    if i <= out.len() && ws.len() <= (out.len() - i) / 4 {
+        for (k, a) in ws.iter().enumerate() {
+            put_word(out, i + 4 * k, *a);
+        }
     }
 }

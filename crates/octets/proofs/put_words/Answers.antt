@@ -13,6 +13,7 @@ use Rattle.octets.proofs.Total.{write_none, write_not, write_at-more, length-wri
 use Rattle.definition.proofs.Word.{length-bytes, bytes_snoc}
 use Rattle.octets.proofs.put_words.Invariants.{some}
 use Rattle.octets.proofs.put_words.Goals as goal
+use Rattle.octets.proofs.put_words.Goals.{else-i-out-via-then-i-out+else-ws-out, else-i-out-via-else-i-out}
 
 length_some : (k : ℕ) (ws : List ℕ) → k ≤ length ws → length (some k ws) ≡ 4 * k
 unfolding some
@@ -21,11 +22,8 @@ length_some k ws h = length-bytes (take k ws) ∙ ap (λ (n : ℕ). 4 * n) (leng
 no_room : (i : ℕ) (ws l : List ℕ) → length l < i + 4 * length ws → l ≡ write_at i (bytes_of_all ws) l
 no_room i ws l h = sym (write_not i (bytes_of_all ws) l (rw (length-bytes ws) h))
 
-pub returns-then-out-i : goal.returns-then-out-i
-returns-then-out-i c = no_room _ _ _ (omega arith)
-
-pub returns-then-out-i-2 : goal.returns-then-out-i-2
-returns-then-out-i-2 c = no_room _ _ _ (omega arith)
+pub returns-else-i-out : goal.returns-else-i-out
+returns-else-i-out c = no_room _ _ _ (elim c.else-i-out.branch [ else-i-out-via-then-i-out+else-ws-out w ↦ omega arith | else-i-out-via-else-i-out w ↦ omega arith ])
 
 pub loop-k-init : goal.loop-k-init
 unfolding some bytes_of_all
@@ -53,9 +51,9 @@ shape_of-out c =
     let l = c.loop-k in
     ap length l.invariant.2 ∙ length-write_at _ _ _
 
-pub returns : goal.returns
+pub returns-after-loop-k : goal.returns-after-loop-k
 unfolding some
-returns c =
+returns-after-loop-k c =
     let l = c.loop-k in
     let ws = c.args.ws.now in
     let e : l.k ≡ length ws = omega arith in
