@@ -13,14 +13,11 @@ pub const CLOSING: u8 = 0x80;
 pub fn high_bits(odd: usize, byte: u8) -> u8
     ensures { result ≡ high_bits odd byte }
 {
-    if odd == 0 {
-        return 0;
+    match odd {
+        0 => 0,
+        1..=7 => byte >> (8 - odd) << (8 - odd),
+        _ => byte,
     }
-    if 7 < odd {
-        return byte;
-    }
-    let shift = 8 - odd;
-    (((byte as u32) >> shift) << shift) as u8
 }
 
 // The byte that closes a message with odd bits, at most seven: they, the padding bit, and zeros.
@@ -41,11 +38,7 @@ fn absorb_padded(w: Width, c: Counted, t: &[u8], closing: u8) -> Counted
 {
     let n = t.len();
     let mut p = [0u8; 32];
-    let mut i = 0;
-    while i < n {
-        p[i] = t[i];
-        i += 1;
-    }
+    p[..n].copy_from_slice(t);
     p[n] = closing;
     crate::absorb(w, c, &p)
 }
@@ -55,6 +48,5 @@ pub fn absorb_last(w: Width, c: Counted, s: &[u8], closing: u8) -> Counted
     ensures { result ≡ counted_chain w c (blocks (padded closing s.now)) }
 {
     let d = crate::absorb(w, c, s);
-    let at = s.len() / 32 * 32;
-    absorb_padded(w, d, &s[at..], closing)
+    absorb_padded(w, d, s.chunks_exact(32).remainder(), closing)
 }

@@ -89,11 +89,9 @@ fn round(w: Width, s: State, m: Block) -> State
 pub fn counted_round(w: Width, c: Counted, m: Block) -> Counted
     ensures { result ≡ counted_round w c m }
 {
-    let s = c.state;
-    let state = round(w, s, m);
     Counted {
-        state: state,
-        rounds: std::num::wrapping_add_u64(c.rounds, 1),
+        state: round(w, c.state, m),
+        rounds: c.rounds.wrapping_add(1),
     }
 }
 
@@ -101,16 +99,12 @@ pub fn counted_round(w: Width, c: Counted, m: Block) -> Counted
 pub fn absorb(w: Width, c: Counted, s: &[u8]) -> Counted
     ensures { result ≡ counted_chain w c (blocks s.now) }
 {
-    let mut t = s;
     let mut d = c;
-    while 32 <= t.len() {
-        let m = octets::full_block(t);
-        d = counted_round(w, d, m);
-        t = &t[32..];
+    for m in s.chunks_exact(32) {
+        d = counted_round(w, d, octets::full_block(m));
     }
-    let h = d.state;
     Counted {
-        state: blocks::used(w, h),
+        state: blocks::used(w, d.state),
         rounds: d.rounds,
     }
 }

@@ -5,4 +5,4 @@ use Rattle.rounds.proofs.counted_round.Goals as goal
 
 pub returns : goal.returns
 unfolding counted_round
-returns c = simp (c.wrapping_add_u64.ensures.value, c.round-state.ensures)
+returns c = rw c.round.ensures

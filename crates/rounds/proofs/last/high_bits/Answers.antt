@@ -11,20 +11,17 @@ unfolding high_bits
 shifted zero b h = absurd (h refl)
 shifted (suc o) b h = let e : 8 - suc o ≡ 7 - o = omega arith in rw e
 
-pub returns-then-odd-eq0 : goal.returns-then-odd-eq0
+pub returns-in-0 : goal.returns-in-0
 unfolding high_bits
-returns-then-odd-eq0 c = rw c.if-odd-eq0.true
+returns-in-0 c = rw c.in-0.is
 
-pub returns-then-odd-gt7 : goal.returns-then-odd-gt7
-returns-then-odd-gt7 c =
+pub returns-in-1-to-7 : goal.returns-in-1-to-7
+returns-in-1-to-7 c =
+    let a = c.args in
+    rw (shifted a.odd a.byte (λ e. omega arith)) (omega (arith, split a.byte (8 - a.odd)))
+
+pub returns-in_default : goal.returns-in_default
+returns-in_default c =
     let a = c.args in
     let e : 8 - a.odd ≡ 0 = omega arith in
-    sym (shifted a.odd a.byte c.if-odd-eq0.false ∙ rw e (omega arith))
-
-pub overflow_cast-result-4 : goal.overflow_cast-result-4
-overflow_cast-result-4 c = let a = c.args in omega (arith, split a.byte (8 - a.odd))
-
-pub returns : goal.returns
-returns c =
-    let a = c.args in
-    rw (shifted a.odd a.byte c.if-odd-eq0.false) (omega (arith, split a.byte (8 - a.odd)))
+    sym (shifted a.odd a.byte (λ e. omega arith) ∙ rw e (omega arith))
