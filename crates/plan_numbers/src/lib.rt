@@ -9,7 +9,7 @@ ghost use Rattle.plan_numbers.specs.Numbers.{has as has_number, plus};
 pub fn has(t: &[u64; 1024], k: u16) -> bool
     ensures { result ≡ has_number t.now k }
 {
-    let i = k as usize;
+    let i = usize::from(k);
     (t[i / 64] >> (i % 64)) % 2 == 1
 }
 
@@ -17,8 +17,6 @@ pub fn has(t: &[u64; 1024], k: u16) -> bool
 pub fn put(t: &mut [u64; 1024], k: u16)
     ensures { has_number t.new ≡ plus k (has_number t.old) }
 {
-    let i = k as usize;
-    // Lent as a slice, so that its length is known.
-    let words = &mut t[..];
-    words[i / 64] = words[i / 64] | (1 << (i % 64));
+    let i = usize::from(k);
+    t[i / 64] |= 1 << (i % 64);
 }

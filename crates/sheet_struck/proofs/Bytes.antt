@@ -1,29 +1,22 @@
--- Bytes of which all are zero, one more at a time.
+-- Bytes whose bits together are none: all of them are zero.
 -- Assumes nothing.
-use mathlib.Core.Path.{◌≡◌, refl}
-use mathlib.Core.Bool.{Bool, true, false, not, ◌&&◌, ◌||◌}
+use mathlib.Core.Path.{◌≡◌, sym, ap, ◌∙◌}
+use mathlib.Core.Bool.{◌&&◌, and-true, and_assoc}
 use mathlib.Core.List.{List, [], ◌∷◌}
-use Prim.Native.Nat.{ℕ, zero, suc, ◌<◌}
+use Prim.Native.Nat.{ℕ, zero, suc}
 use native.Mathlib.Omega.{arith}
+use borrow.Author.Tests.{ne_eqb}
+use lib.Bits.{bit_or, or_zero_l}
 use lib.Dec.{eqb}
-use lib.ListN.{length, get_or, take}
+use Rattle.std.specs.List.{fold}
+use Rattle.std.proofs.lemmas.Nat.{le_or_l}
 use Rattle.sheet_definition.specs.Struck.{all_zero}
 
--- a byte is set among the first where one was before, or the next is
-pub one_more : (k : ℕ) (x : List ℕ) → k < length x → (not (all_zero (take k x)) || not (eqb (get_or x k 0) 0)) ≡ not (all_zero (take (suc k) x))
-unfolding all_zero
-one_more k [] h = absurd (omega arith)
-one_more zero (b ∷ x) h = first (eqb b 0)
-  where
-    first : (c : Bool) → (false || not c) ≡ not (c && true)
-    first true = refl
-    first false = refl
-one_more (suc k) (b ∷ x) h = later (eqb b 0) (all_zero (take k x)) _ _ (one_more k x (omega arith))
-  where
-    later : (c d e f : Bool) → (not d || e) ≡ not f → (not (c && d) || e) ≡ not (c && f)
-    later true d e f i = i
-    later false d e f i = refl
+or_zero : (a b : ℕ) → eqb (bit_or a b) 0 ≡ eqb a 0 && eqb b 0
+or_zero zero b = rw or_zero_l
+or_zero (suc a) b = rw (ne_eqb (suc a) 0 (λ e. omega arith), ne_eqb (bit_or (suc a) b) 0 (λ e. omega (arith, le_or_l (suc a) b)))
 
-pub twice : (b : Bool) → not (not b) ≡ b
-twice true = refl
-twice false = refl
+pub together : (s : ℕ) (t : List ℕ) → eqb (fold (λ a x. bit_or a x) s t) 0 ≡ eqb s 0 && all_zero t
+unfolding all_zero
+together s [] = sym (and-true (eqb s 0))
+together s (x ∷ t) = together (bit_or s x) t ∙ ap (λ b. b && all_zero t) (or_zero s x) ∙ and_assoc (eqb s 0) (eqb x 0) (all_zero t)

@@ -8,12 +8,5 @@ ghost use Rattle.sheet_definition.specs.Struck.{all_zero};
 pub fn zeros(t: &[u8]) -> bool
     ensures { result ≡ all_zero t.now }
 {
-    let n = t.len();
-    let mut set = false;
-    let mut k = 0;
-    while k < n {
-        set = set | (t[k] != 0);
-        k += 1;
-    }
-    !set
+    t.iter().fold(0, |set, x| set | *x) == 0
 }

@@ -8,4 +8,4 @@ use Rattle.plan_numbers.proofs.put.Goals as goal
 pub returns : goal.returns
 returns c =
     let a = c.args in
-    fun_ext (set_adds a.k a.t.now (search rules))
+    rw c.from-i.ensures (fun_ext (set_adds a.k a.t.now (search rules)))
