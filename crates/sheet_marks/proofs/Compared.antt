@@ -1,29 +1,14 @@
--- Two lists compared element by element from the front.
+-- Two lists compared element by element.
 -- Assumes nothing.
-use mathlib.Core.Path.{◌≡◌, refl, sym, ap, ◌∙◌}
+use mathlib.Core.Path.{◌≡◌, refl, ap, ◌∙◌}
 use mathlib.Core.Bool.{Bool, true, false, not, ◌&&◌, ◌||◌, and-false}
 use mathlib.Core.List.{List, [], ◌∷◌}
-use Prim.Native.Nat.{ℕ, zero, suc, ◌<◌}
+use Prim.Native.Nat.{ℕ, suc}
 use native.Mathlib.Omega.{arith}
 use lib.Dec.{eqb}
-use lib.ListN.{length, get_or, take}
+use lib.ListN.{length}
+use Rattle.std.specs.List.{fold, zip}
 use Rattle.definition.specs.Buffer.{same}
-
--- one element more
-last_compared : (e b c : Bool) → (e && (b && c)) ≡ ((e && b) && c)
-last_compared true b c = refl
-last_compared false b c = refl
-
-and_true : (b : Bool) → (b && true) ≡ b
-and_true true = refl
-and_true false = refl
-
-same_step : (j : ℕ) (x y : List ℕ) → j < length x → j < length y
-    → same (take (suc j) x) (take (suc j) y) ≡ same (take j x) (take j y) && eqb (get_or x j 0) (get_or y j 0)
-same_step j [] y h i = absurd (omega arith)
-same_step j (a ∷ x) [] h i = absurd (omega arith)
-same_step zero (a ∷ x) (b ∷ y) h i = and_true (eqb a b)
-same_step (suc j) (a ∷ x) (b ∷ y) h i = ap (λ (c : Bool). eqb a b && c) (same_step j x y (omega arith) (omega arith)) ∙ last_compared (eqb a b) _ _
 
 -- lists of other lengths aren't the same
 pub other_length : (x y : List ℕ) → (length x ≡ length y → ⊥) → same x y ≡ false
@@ -32,11 +17,15 @@ other_length [] (b ∷ y) h = refl
 other_length (a ∷ x) [] h = refl
 other_length (a ∷ x) (b ∷ y) h = rw (other_length x y (λ e. h (ap suc e))) (and-false (eqb a b))
 
-either_other : (b c : Bool) → (not b || not c) ≡ not (b && c)
-either_other true c = refl
-either_other false c = refl
+either_other : (o b c : Bool) → ((o || not b) || not c) ≡ (o || not (b && c))
+either_other true b c = refl
+either_other false true c = refl
+either_other false false c = refl
 
--- they differ where they did before it or the two elements do
-pub differ-step : (j : ℕ) (x y : List ℕ) → j < length x → j < length y
-    → (not (same (take j x) (take j y)) || not (eqb (get_or x j 0) (get_or y j 0))) ≡ not (same (take (suc j) x) (take (suc j) y))
-differ-step j x y h i = either_other (same (take j x) (take j y)) _ ∙ ap not (sym (same_step j x y h i))
+-- they differ where a pair of their elements does
+pub differing : (o : Bool) (x y : List ℕ) → length x ≡ length y → fold (λ a (p : ℕ × ℕ). a || not (eqb p.0 p.1)) o (zip x y) ≡ (o || not (same x y))
+differing true [] [] h = refl
+differing false [] [] h = refl
+differing o [] (b ∷ y) h = absurd (omega arith)
+differing o (a ∷ x) [] h = absurd (omega arith)
+differing o (a ∷ x) (b ∷ y) h = differing (o || not (eqb a b)) x y (omega arith) ∙ either_other o (eqb a b) (same x y)

@@ -7,7 +7,7 @@ use native.Mathlib.Decide.{dec_le}
 use native.Mathlib.Omega.{arith}
 use borrow.Author.Tests.{le-leb}
 use lib.Dec.{ltb}
-use lib.ListN.{length, drop, replicate, length-replicate, replicate-append-replicate}
+use lib.ListN.{length, drop, length-replicate}
 use Rattle.definition.specs.declared.State.{State}
 use Rattle.definition.specs.declared.Width.{Width}
 use Rattle.definition.specs.declared.Width.TheVariants.{W3, W4, W5}
@@ -19,7 +19,7 @@ use Rattle.sheet_definition.specs.Sheet.{mark_words, q}
 use Rattle.sheet_definition.specs.Marks.{mark_at, state_from}
 use Rattle.sheet_definition.specs.SheetCalls.{past_last}
 use Rattle.octets.specs.Total.{write_at}
-use Rattle.octets.proofs.Total.{write_at_lem, write_not, write_none, write_at-more}
+use Rattle.octets.proofs.Total.{write_at_lem, write_not, write_none}
 use Rattle.sheet_marks.specs.Total.{when_used, state_when, state_at, cleared}
 
 -- five blocks one after the other, the last two where they are used
@@ -52,32 +52,26 @@ module _ (marks : List ℕ) (m : ℕ) (h : mark_words * (m + 1) ≤ length marks
   unfolding words_of_all five words_of
   written_at s = write_at_lem (mark_words * m) (words_of_all (five s)) marks (omega arith)
 
--- where the records become no fewer nothing is cleared
+-- where the marks become no fewer nothing is cleared
+pub cleared_nothing : (n count : ℕ) (marks : List ℕ) → q n ≤ q count → cleared n count marks ≡ marks
+unfolding cleared
+cleared_nothing n count marks h =
+    let e : q n - q count ≡ 0 = omega arith in
+    rw e (write_none (mark_words * (q count + 1)) marks)
+
 pub cleared_none : (n count : ℕ) (marks : List ℕ) → n ≤ count → cleared n count marks ≡ marks
-unfolding cleared q
-cleared_none n count marks h =
-    let e : n / 4 - count / 4 ≡ 0 = omega arith in
-    rw e (write_none (mark_words * (count / 4 + 1)) marks)
+unfolding q
+cleared_none n count marks h = cleared_nothing n count marks (omega arith)
 
 -- where there is room for the marks, those past the new last are zeroed
 pub cleared-past : (n count : ℕ) (marks : List ℕ) → count ≤ n → mark_words * (q n + 1) ≤ length marks → cleared n count marks ≡ past_last n count marks
 unfolding cleared past_last q
 cleared-past n count marks h l = write_at_lem _ _ marks (omega (arith, length-replicate {A = ℕ} (mark_words * (n / 4 - count / 4)) 0))
 
--- with too little room nothing is, and one mark more at a time
+-- with too little room nothing is
 pub cleared_not : (n count : ℕ) (marks : List ℕ) → length marks < mark_words * (q n + 1) → cleared n count marks ≡ marks
-unfolding cleared q
 cleared_not n count marks h =
-    elim (dec_le n count) [
-      | yes d ↦ unfold cleared q in cleared_none n count marks d
-      | no d ↦ write_not _ _ marks (omega (arith, length-replicate {A = ℕ} (mark_words * (n / 4 - count / 4)) 0))
+    elim (dec_le (q n) (q count)) [
+      | yes d ↦ cleared_nothing n count marks d
+      | no d ↦ unfold cleared in write_not _ _ marks (omega (arith, length-replicate {A = ℕ} (mark_words * (q n - q count)) 0))
     ]
-
-pub cleared_more : (k m : ℕ) (marks : List ℕ) → k ≤ m → mark_words * (m + 2) ≤ length marks
-    → write_at (mark_words * (m + 1)) (replicate mark_words 0) (write_at (mark_words * (k + 1)) (replicate (mark_words * (m - k)) 0) marks)
-    ≡ write_at (mark_words * (k + 1)) (replicate (mark_words * (m + 1 - k)) 0) marks
-cleared_more k m marks h l =
-    let e : mark_words * (m - k) + mark_words ≡ mark_words * (m + 1 - k) = omega arith in
-    write_at-more (mark_words * (k + 1)) (mark_words * (m + 1)) (replicate (mark_words * (m - k)) 0) (replicate mark_words 0) marks
-    (omega (arith, length-replicate {A = ℕ} (mark_words * (m - k)) 0)) (omega (arith, length-replicate {A = ℕ} mark_words 0))
-    ∙ rw (replicate-append-replicate {A = ℕ} (mark_words * (m - k)) mark_words 0, e)

@@ -2,7 +2,7 @@
 // there is no room.
 #![tactic(auto)]
 
-ghost use Rattle.std.specs.Prelude.{◌≡◌, not, [], ◌*◌, ◌≤◌, length};
+ghost use Rattle.std.specs.Prelude.{◌≡◌, not, [], ◌*◌};
 ghost use Rattle.definition.specs.Block.{words_of_all, block_from};
 ghost use Rattle.definition.specs.State.{five, state_of};
 ghost use Rattle.definition.specs.Buffer.{same};
@@ -26,23 +26,23 @@ fn zeros() -> State
     }
 }
 
-// The first eight words of a slice where the block is used, else zero: the words of an unused block are not read.
-fn block(used: bool, t: &[u32]) -> Block
-    requires { 8 ≤ length t.now }
+// Eight words as a block where it is used, else zero: the words of an unused block are not read.
+fn block(used: bool, t: &[u32; 8]) -> Block
     ensures { result ≡ when_used used (block_from t.now) }
 {
     if !used {
         return blocks::zero();
     }
+    let [a0, a1, a2, a3, a4, a5, a6, a7] = *t;
     Block {
-        a0: t[0],
-        a1: t[1],
-        a2: t[2],
-        a3: t[3],
-        a4: t[4],
-        a5: t[5],
-        a6: t[6],
-        a7: t[7],
+        a0,
+        a1,
+        a2,
+        a3,
+        a4,
+        a5,
+        a6,
+        a7,
     }
 }
 
@@ -50,19 +50,17 @@ fn block(used: bool, t: &[u32]) -> Block
 pub fn read(w: Width, marks: &[u32], m: usize) -> State
     ensures { result ≡ state_at w marks.now m }
 {
-    if marks.len() / MARK <= m {
+    let Some(mark) = marks.as_chunks::<MARK>().0.get(m) else {
         return zeros();
-    }
+    };
+    let t = mark.as_chunks::<8>().0;
     let k = blocks::count(w);
-    let i = MARK * m;
-    let end = i + MARK;
-    let t = &marks[i..end];
     State {
-        h0: block(true, t),
-        h1: block(true, &t[8..]),
-        h2: block(true, &t[16..]),
-        h3: block(3 < k, &t[24..]),
-        h4: block(4 < k, &t[32..]),
+        h0: block(true, &t[0]),
+        h1: block(true, &t[1]),
+        h2: block(true, &t[2]),
+        h3: block(3 < k, &t[3]),
+        h4: block(4 < k, &t[4]),
     }
 }
 
@@ -71,55 +69,30 @@ pub fn read(w: Width, marks: &[u32], m: usize) -> State
 pub fn differs(mark: &[u32], words: &[u32; 40]) -> bool
     ensures { result ≡ not (same mark.now words.now) }
 {
-    // Lent as a slice, so that its length is known.
-    let ws = &words[..];
-    if mark.len() != MARK {
-        return true;
-    }
-    let mut other = false;
-    let mut k = 0;
-    while k < MARK {
-        other = other | (mark[k] != ws[k]);
-        k += 1;
-    }
-    other
-}
-
-// The words of mark m.
-fn put(marks: &mut [u32], m: usize, ws: &[u32])
-    requires { length ws.now ≡ 40 }
-    ensures { marks.new ≡ write_at (40 * m) ws.now marks.old }
-{
-    if marks.len() / MARK <= m {
-        return;
-    }
-    let i = MARK * m;
-    let mut j = 0;
-    while j < MARK {
-        marks[i + j] = ws[j];
-        j += 1;
-    }
+    mark.len() != MARK
+        || mark
+            .iter()
+            .zip(words)
+            .fold(false, |other, (a, b)| other | (a != b))
 }
 
 // A state, written as mark m.
 pub fn write(marks: &mut [u32], m: usize, s: State)
     ensures { marks.new ≡ write_at (40 * m) (words_of_all (five s)) marks.old }
 {
-    let ws = blocks::words(s);
-    put(marks, m, &ws);
+    if m < marks.len() / MARK {
+        let i = MARK * m;
+        marks[i..i + MARK].copy_from_slice(&blocks::words(s));
+    }
 }
 
 // A sheet of n records becomes one of count: the marks past its new last one are zeroed.
 pub fn clear(marks: &mut [u32], n: usize, count: usize)
     ensures { marks.new ≡ cleared n count marks.old }
 {
+    let first = count / 4 + 1;
     let last = n / 4;
-    if marks.len() / MARK <= last {
-        return;
-    }
-    let mut m = count / 4;
-    while m < last {
-        m += 1;
-        write(marks, m, zeros());
+    if first <= last && last < marks.len() / MARK {
+        marks[MARK * first..MARK * (last + 1)].fill(0);
     }
 }

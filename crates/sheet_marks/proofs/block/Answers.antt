@@ -10,5 +10,4 @@ returns-then-not-used c = rw c.if-not-used.true c.zero.ensures
 
 pub returns : goal.returns
 unfolding when_used block_from
-returns c =
-    rw c.if-not-used.false
+returns c = rw c.if-not-used.false

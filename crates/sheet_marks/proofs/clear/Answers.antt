@@ -1,43 +1,32 @@
--- `sheet_marks::clear` meets its contract. The loop's invariant: the marks past the new last, up to m, are zero.
+-- `sheet_marks::clear` meets its contract: the part that is filled are the marks past the new last, or none is.
 -- Assumes nothing.
 use mathlib.Core.Path.{◌≡◌, sym, ap, ◌∙◌}
-use Prim.Native.Nat.{◌-◌}
+use Prim.Native.Nat.{ℕ, ◌+◌, ◌-◌, ◌*◌, ◌/◌}
 use native.Mathlib.Omega.{arith}
-use lib.ListN.{length}
-use Rattle.definition.specs.Block.{words_of, words_of_all}
-use Rattle.definition.specs.State.{five, state_of}
+use lib.ListN.{length, take, drop, replicate, length-replicate, length-drop}
+use lib.Seq.{length-take-le}
 use Rattle.sheet_definition.specs.Sheet.{q}
-use Rattle.octets.proofs.Total.{write_none, length-write_at}
+use Rattle.octets.proofs.Total.{put_part}
 use Rattle.sheet_marks.specs.Total.{cleared}
-use Rattle.sheet_marks.proofs.Total.{cleared_not, cleared_more}
+use Rattle.sheet_marks.proofs.Total.{cleared_not, cleared_nothing}
 use Rattle.sheet_marks.proofs.clear.Goals as goal
+use Rattle.sheet_marks.proofs.clear.Goals.{else-first-last-via-then-first-last+else-last-marks, else-first-last-via-else-first-last}
 
-pub returns-then-marks-last : goal.returns-then-marks-last
+pub returns-else-first-last : goal.returns-else-first-last
 unfolding q
-returns-then-marks-last c = sym (cleared_not _ _ _ (omega arith))
+returns-else-first-last c =
+    elim c.else-first-last.branch [
+      | else-first-last-via-then-first-last+else-last-marks w ↦ sym (cleared_not _ _ _ (omega arith))
+      | else-first-last-via-else-first-last w ↦ sym (cleared_nothing _ _ _ (omega arith))
+    ]
 
-pub loop-m-init : goal.loop-m-init
-unfolding q
-loop-m-init c =
-    let a = c.args in
-    let e : q a.count - q a.count ≡ 0 = omega arith in
-    (omega arith, omega arith, rw e (sym (write_none _ a.marks.now)))
-
-pub loop-m-preserved : goal.loop-m-preserved
-unfolding q words_of_all words_of five state_of
-loop-m-preserved c =
-    let l = c.loop-m in
-    let a = c.args in
-    (omega arith, omega arith, (rw c.zeros.ensures at c.write.ensures) ∙ rw l.invariant.2 (cleared_more (q a.count) l.m a.marks.now (omega arith) (omega arith)))
-
-pub returns : goal.returns
+pub returns-then-last-marks : goal.returns-then-last-marks
 unfolding cleared q
-returns c =
-    let l = c.loop-m in
+returns-then-last-marks c =
     let a = c.args in
-    let e : l.m - q a.count ≡ q a.n - q a.count = omega arith in
-    l.invariant.2 ∙ rw e
-
-pub shape_of-marks : goal.shape_of-marks
-shape_of-marks c =
-    ap length c.loop-m.invariant.2 ∙ length-write_at _ _ _
+    let k : ℕ = 40 * (a.n / 4 - a.count / 4) in
+    let n : length (replicate {A = ℕ} k 0) ≡ k = length-replicate k 0 in
+    let i : ℕ = 40 * (a.count / 4 + 1) in
+    let m : ℕ = 40 * (a.n / 4 + 1) - i in
+    let e : length (take m (drop i a.marks.now)) ≡ k = length-take-le m (drop i a.marks.now) (omega (arith, length-drop i a.marks.now)) ∙ omega arith in
+    put_part _ _ (replicate k 0) _ _ (omega arith) (omega arith) (c.fill.ensures.after (λ y h. h) ∙ ap (λ (n : ℕ). replicate n 0) e)

@@ -1,20 +1,24 @@
 -- `sheet_marks::read` meets its contract: five blocks where they lie, the last two where w uses them.
 -- Assumes nothing.
-use mathlib.Core.Path.{ap, ◌∙◌}
-use Prim.Native.Nat.{ℕ, ◌+◌, ◌-◌, ◌*◌}
+use mathlib.Core.Path.{◌≡◌, ap, ◌∙◌}
+use Prim.Native.Nat.{ℕ, ◌+◌, ◌*◌, ◌/◌, ◌≤◌}
 use native.Mathlib.Omega.{arith}
 use borrow.Author.Tests.{lt-leb}
-use lib.ListN.{length, take, drop}
+use mathlib.Core.Bool.{true}
+use mathlib.Core.List.{List, []}
+use lib.ListN.{length, get_or}
+use Rattle.std.specs.Simd.{first_chunks}
 use Rattle.sheet_definition.specs.Marks.{mark_at}
-use Rattle.octets.proofs.Parts.{part_rest}
 use Rattle.sheet_marks.specs.Total.{when_used, state_when, state_at}
 use Rattle.sheet_marks.proofs.Total.{found, found_at}
+use Rattle.sheet_marks.proofs.Chunks.{chunk_at, block_at}
 use Rattle.sheet_marks.proofs.read.Goals as goal
 
-pub returns-then-marks-m : goal.returns-then-marks-m
+pub returns-in_default : goal.returns-in_default
 unfolding state_at state_when
-returns-then-marks-m c =
+returns-in_default c =
     let a = c.args in
+    let h : length a.marks.now / 40 ≤ a.m = omega (arith, c.as_chunks.ensures.front_len, c.in_default.ensures.lookup.3) in
     rw (lt-leb (40 * (a.m + 1)) (length a.marks.now) (omega arith), c.zeros.ensures)
 
 pub returns : goal.returns
@@ -22,14 +26,18 @@ unfolding found mark_at when_used
 returns c =
     let a = c.args in
     let marks = a.marks.now in
-    let t = take (40 * a.m + 40 - 40 * a.m) (drop (40 * a.m) marks) in
+    let t = c.in-Some.mark.now in
+    let h = c.in-Some.ensures.lookup.3 in
+    let e : t ≡ mark_at marks a.m =
+    h.1 [] ∙ ap (λ (l : List (List ℕ)). get_or l a.m []) c.as_chunks.ensures.front ∙ chunk_at 40 (length marks / 40) a.m marks [] (omega arith) in
+    let n : length t ≡ 40 = omega arith in
+    let f : c.as_chunks-2.result.0.now ≡ first_chunks 8 5 t = rw n at c.as_chunks-2.ensures.front in
     ◌∙◌ {b = found a.w t}
     (λ i. record {
-      h0 = c.block.ensures i;
-      h1 = (rw (part_rest 8 t) at c.block-2.ensures) i;
-      h2 = (rw (part_rest 16 t) at c.block-3.ensures) i;
-      h3 = (rw (part_rest 24 t, c.count-k.ensures) at c.block-4.ensures) i;
-      h4 = (rw (part_rest 32 t, c.count-k.ensures) at c.block-5.ensures) i;
+      h0 = (c.block.ensures ∙ ap (when_used true) (block_at 0 t _ f (omega arith))) i;
+      h1 = (c.block-2.ensures ∙ ap (when_used true) (block_at 1 t _ f (omega arith))) i;
+      h2 = (c.block-3.ensures ∙ ap (when_used true) (block_at 2 t _ f (omega arith))) i;
+      h3 = ((rw c.count-k.ensures at c.block-4.ensures) ∙ ap (when_used _) (block_at 3 t _ f (omega arith))) i;
+      h4 = ((rw c.count-k.ensures at c.block-5.ensures) ∙ ap (when_used _) (block_at 4 t _ f (omega arith))) i;
     })
-    (ap (λ (n : ℕ). found a.w (take n (drop (40 * a.m) marks))) {x = 40 * a.m + 40 - 40 * a.m} {y = 40} (omega arith)
-    ∙ found_at marks a.m (omega arith) a.w)
+    (ap (found a.w) e ∙ found_at marks a.m (omega arith) a.w)
