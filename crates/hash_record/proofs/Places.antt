@@ -1,17 +1,16 @@
 -- The record's layout: parts read where they lie, what is held written in its place, and the whole written part by part.
 -- Assumes nothing.
-use mathlib.Core.Path.{◌≡◌, refl, ap, ◌∙◌}
+use mathlib.Core.Path.{◌≡◌, ◌∙◌}
 use mathlib.Core.List.{List, [], ◌∷◌, ◌++◌, append-nil, append_assoc}
-use Prim.Native.Nat.{ℕ, ◌+◌, ◌-◌, ◌*◌, ◌%◌, ◌<◌, ◌≤◌}
-use native.Mathlib.Nat.{mod-lt, zero-lt-suc}
+use Prim.Native.Nat.{ℕ, ◌+◌, ◌%◌, ◌≤◌}
 use native.Mathlib.Omega.{arith}
 use borrow.Author.Tests.{eq-eqb, le-leb}
 use lib.ListN.{length, take, drop, replicate, length-append, length-drop, drop_of_length-le}
-use lib.Seq.{take_at}
+use lib.Seq.{take_at, length-take-le}
 use Rattle.definition.specs.declared.State.{State}
 use Rattle.hash_definition.specs.declared.Kept.{Kept}
 use Rattle.hash_definition.specs.declared.Held.{Held}
-use Rattle.definition.specs.Word.{word_of, bytes_of, bytes_of_all}
+use Rattle.definition.specs.Word.{bytes_of_all}
 use Rattle.definition.specs.Block.{block_of, word_at, words_of, words_of_all}
 use Rattle.definition.specs.State.{five}
 use Rattle.definition.specs.Buffer.{overwrite_at}
@@ -19,31 +18,20 @@ use Rattle.definition.specs.Refusal.{pick}
 use Rattle.octets.specs.Total.{first_block, word_when, first_word, write_at}
 use Rattle.hash_definition.specs.Record.{record_length, count_words, encode, held_of, with_held}
 use Rattle.hash_record.specs.Reading.{held_written, written}
-use Rattle.definition.proofs.Word.{bytes_of_word, length-bytes}
-use Rattle.octets.proofs.Total.{whole-block, write_at_lem, write_at-more}
-use Rattle.octets.proofs.Parts.{part_rest}
+use Rattle.definition.proofs.Word.{length-bytes}
+use Rattle.octets.proofs.Total.{whole-block, word-front, block-front, write_at_lem, write_at-more}
 
 -- a block and a word read from a part
-pub part_block : (b : List ℕ) (n : ℕ) → n + 32 ≤ length b → first_block (take (length b - n) (drop n b)) ≡ block_of (drop n b)
-part_block b n h = rw (part_rest n b) (whole-block (drop n b) (omega (arith, length-drop n b)))
+pub part_block : (b : List ℕ) (i n : ℕ) → 32 ≤ n → i + n ≤ length b → first_block (take n (drop i b)) ≡ block_of (drop i b)
+part_block b i n h l =
+    let e : length (take n (drop i b)) ≡ n = length-take-le n (drop i b) (omega (arith, length-drop i b)) in
+    whole-block (take n (drop i b)) (omega arith) ∙ block-front n (drop i b) h
 
-pub part_word : (b : List ℕ) (n : ℕ) → n + 4 ≤ length b → first_word (take (length b - n) (drop n b)) ≡ word_at (drop n b) 0
+pub part_word : (b : List ℕ) (i n : ℕ) → 4 ≤ n → i + n ≤ length b → first_word (take n (drop i b)) ≡ word_at (drop i b) 0
 unfolding first_word word_when
-part_word b n h =
-    let e : 4 ≤ length (drop n b) = omega (arith, length-drop n b) in
-    rw (part_rest n b, le-leb 4 (length (drop n b)) e)
-
-zeros : (x : ℕ) → (x ∷ 0 ∷ 0 ∷ 0 ∷ []) ++ (bytes_of 0 ++ []) ≡ x ∷ replicate 7 0
-unfolding bytes_of
-zeros x = refl
-
--- the code's byte and seven zeros, as two words
-header : (x : ℕ) → x < 256 → bytes_of_all (x * 16777216 ∷ 0 ∷ []) ≡ x ∷ replicate 7 0
-unfolding word_of bytes_of_all
-header x h =
-    let e : x * 16777216 ≡ word_of x 0 0 0 = omega arith in
-    ap (λ (l : List ℕ). l ++ (bytes_of 0 ++ [])) (ap bytes_of e ∙ bytes_of_word x 0 0 0 h (omega arith) (omega arith) (omega arith))
-    ∙ zeros x
+part_word b i n h l =
+    let e : length (take n (drop i b)) ≡ n = length-take-le n (drop i b) (omega (arith, length-drop i b)) in
+    rw (e, le-leb 4 n h) (word-front n 0 (drop i b) (omega arith))
 
 -- a whole buffer written from its front is what was written
 pub all_written : (p l : List ℕ) → length p ≡ length l → overwrite_at 0 p l ≡ p
@@ -103,7 +91,7 @@ held-written k h m n =
 -- header, state and what is held, written one after the other, are the record
 pub all_parts : (k : Kept) (b : List ℕ) → length b ≡ 216 → length k.pending ≡ 32
     → held_written (held_of k)
-    (write_at 8 (bytes_of_all (words_of_all (five k.state))) (write_at 0 (bytes_of_all (k.code % 256 * 16777216 ∷ 0 ∷ [])) b))
+    (write_at 8 (bytes_of_all (words_of_all (five k.state))) (write_at 0 (k.code % 256 ∷ replicate 7 0) b))
     ≡ encode k
 unfolding encode held_of overwrite_at
 all_parts k b h e =
@@ -114,7 +102,6 @@ all_parts k b h e =
     let l : length (x ∷ 0 ∷ y) ≡ 168 = omega arith in
     let d : length (drop 168 b) ≡ 48 = omega (arith, length-drop 168 b) in
     rw (
-      header x (mod-lt k.code (zero-lt-suc 255)),
       write_at-more 0 8 (x ∷ replicate 7 0) (bytes_of_all (words_of_all (five k.state))) b (omega arith) (omega arith),
       write_at_lem 0 (x ∷ 0 ∷ y) b (omega arith),
       l,

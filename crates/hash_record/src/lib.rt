@@ -2,7 +2,7 @@
 // Q-7).
 #![tactic(auto)]
 
-ghost use Rattle.std.specs.Prelude.{◌≡◌, ◌+◌, ◌≤◌, length, take, drop};
+ghost use Rattle.std.specs.Prelude.{◌≡◌, ◌+◌, ◌≤◌, take, drop};
 ghost use Rattle.definition.specs.Block.{words_of_all};
 ghost use Rattle.definition.specs.Width.{block_count, width_at};
 ghost use Rattle.definition.specs.State.{five};
@@ -23,16 +23,8 @@ const PENDING_AT: usize = 168;
 
 const COUNT_AT: usize = 200;
 
-// A byte as a number.
-fn wide(x: u8) -> usize
-    ensures { result ≡ x }
-{
-    x as usize
-}
-
-// The state's blocks and the pending bytes of a record of the right length.
-fn state_in(b: &[u8]) -> State
-    requires { length b.now ≡ record_length }
+// The state's blocks and the pending bytes of a record.
+fn state_in(b: &[u8; 216]) -> State
     ensures { result ≡ (decode_of b.now).state }
 {
     State {
@@ -44,50 +36,51 @@ fn state_in(b: &[u8]) -> State
     }
 }
 
-fn pending_in(b: &[u8]) -> [u8; 32]
-    requires { length b.now ≡ record_length }
+fn pending_in(b: &[u8; 216]) -> [u8; 32]
     ensures { result ≡ (decode_of b.now).pending }
 {
     octets::pasted([0u8; 32], 0, &b[PENDING_AT..COUNT_AT])
 }
 
 // Eight bytes from place i on, the highest first.
-fn number_at(b: &[u8], i: usize) -> u64
-    requires { i + 8 ≤ length b.now }
+fn number_at(b: &[u8; 216], i: usize) -> u64
+    requires { i + 8 ≤ record_length }
     ensures { result ≡ number_at i b.now }
 {
-    let high = octets::first_word(&b[i..]);
-    let low = octets::first_word(&b[i + 4..]);
-    (high as u64) * 4294967296 + (low as u64)
+    let high = u64::from(octets::first_word(&b[i..]));
+    let low = u64::from(octets::first_word(&b[i + 4..]));
+    (high << 32) + low
 }
 
-// What a record of the right length holds beside code and state.
-fn held_in(b: &[u8]) -> Held
-    requires { length b.now ≡ record_length }
+// What a record holds beside code and state.
+fn held_in(b: &[u8; 216]) -> Held
     ensures { result ≡ held_of (decode_of b.now) }
 {
     Held {
-        odd: wide(b[ODD_AT]),
+        odd: usize::from(b[ODD_AT]),
         pending: pending_in(b),
         high: number_at(b, COUNT_AT),
         low: number_at(b, COUNT_AT + 8),
     }
 }
 
-// What a record of the right length holds.
-fn decode(b: &[u8]) -> Kept
-    requires { length b.now ≡ record_length }
+// What a record holds.
+fn decode(b: &[u8; 216]) -> Kept
     ensures { result ≡ decode_of b.now }
 {
-    let h = held_in(b);
-    let pending = h.pending;
+    let Held {
+        odd,
+        pending,
+        high,
+        low,
+    } = held_in(b);
     Kept {
-        code: wide(b[0]),
-        odd: h.odd,
+        code: usize::from(b[0]),
+        odd,
         state: state_in(b),
-        pending: pending,
-        high: h.high,
-        low: h.low,
+        pending,
+        high,
+        low,
     }
 }
 
@@ -95,15 +88,16 @@ fn decode(b: &[u8]) -> Kept
 fn nothing() -> Kept
     ensures { result ≡ nothing_of }
 {
+    let zero = blocks::zero();
     Kept {
         code: 0,
         odd: 0,
         state: State {
-            h0: blocks::zero(),
-            h1: blocks::zero(),
-            h2: blocks::zero(),
-            h3: blocks::zero(),
-            h4: blocks::zero(),
+            h0: zero,
+            h1: zero,
+            h2: zero,
+            h3: zero,
+            h4: zero,
         },
         pending: [0u8; 32],
         high: 0,
@@ -112,26 +106,24 @@ fn nothing() -> Kept
 }
 
 // Whether the six bytes after code and odd bits are zero.
-fn reserved_zero(b: &[u8]) -> bool
-    requires { length b.now ≡ record_length }
+fn reserved_zero(b: &[u8; 216]) -> bool
     ensures { result ≡ all_zero (take 6 (drop 2 b.now)) }
 {
-    b[2] | (b[3] | (b[4] | (b[5] | (b[6] | b[7])))) == 0
+    b[2..STATE_AT].iter().fold(0, |set, x| set | *x) == 0
 }
 
 // Whether the state's blocks that the code doesn't use are zero.
-fn unused_zero(b: &[u8]) -> bool
-    requires { length b.now ≡ record_length }
+fn unused_zero(b: &[u8; 216]) -> bool
     ensures { result ≡ all_zero (words_of_all (drop (block_count (width_at (decode_of b.now).code)) (five (decode_of b.now).state))) }
 {
-    let w = codes::width(wide(b[0]));
-    match w {
+    let fourth = &b[STATE_AT + 96..];
+    let fifth = &b[STATE_AT + 128..];
+    match codes::width(usize::from(b[0])) {
         Width::W3 => {
-            let fourth = hash_kept::zero_block(octets::full_block(&b[STATE_AT + 96..]));
-            let fifth = hash_kept::zero_block(octets::full_block(&b[STATE_AT + 128..]));
-            fourth & fifth
+            hash_kept::zero_block(octets::full_block(fourth))
+                & hash_kept::zero_block(octets::full_block(fifth))
         }
-        Width::W4 => hash_kept::zero_block(octets::full_block(&b[STATE_AT + 128..])),
+        Width::W4 => hash_kept::zero_block(octets::full_block(fifth)),
         Width::W5 => true,
     }
 }
@@ -140,23 +132,20 @@ fn unused_zero(b: &[u8]) -> bool
 pub fn read(b: &[u8]) -> Kept
     ensures { result ≡ reading b.now }
 {
-    if b.len() != LENGTH {
-        return nothing();
+    match <&[u8; LENGTH]>::try_from(b) {
+        Ok(r) if reserved_zero(r) => decode(r),
+        _ => nothing(),
     }
-    if !reserved_zero(b) {
-        return nothing();
-    }
-    decode(b)
 }
 
 // How many whole bytes wait in a record for a full block; 32, as if no byte more had room, in a buffer of another length.
 pub fn waiting(b: &[u8]) -> usize
     ensures { result ≡ waiting_of b.now }
 {
-    if b.len() != LENGTH {
-        return 32;
+    match <&[u8; LENGTH]>::try_from(b) {
+        Ok(r) => usize::from(r[LENGTH - 1]) % 32,
+        Err(_) => 32,
     }
-    wide(b[LENGTH - 1]) % 32
 }
 
 // A record read but for its state: its code, what else it holds, and whether it is well formed. Nothing of a buffer of another length.
@@ -170,22 +159,21 @@ pub struct Glanced {
 pub fn glance(b: &[u8]) -> Glanced
     ensures { result ≡ glance_of b.now }
 {
-    if b.len() != LENGTH {
-        return Glanced {
+    match <&[u8; LENGTH]>::try_from(b) {
+        Ok(r) => {
+            let code = usize::from(r[0]);
+            let held = held_in(r);
+            Glanced {
+                code,
+                held,
+                well: reserved_zero(r) & (hash_kept::well_held(code, held) & unused_zero(r)),
+            }
+        }
+        Err(_) => Glanced {
             code: 0,
             held: hash_kept::held(nothing()),
             well: false,
-        };
-    }
-    let code = wide(b[0]);
-    let h = held_in(b);
-    let reserved = reserved_zero(b);
-    let unused = unused_zero(b);
-    let rest = hash_kept::well_held(code, h);
-    Glanced {
-        code: code,
-        held: h,
-        well: reserved & (rest & unused),
+        },
     }
 }
 
@@ -193,9 +181,8 @@ pub fn glance(b: &[u8]) -> Glanced
 pub fn put_held(h: Held, b: &mut [u8])
     ensures { b.new ≡ held_written h b.old }
 {
-    let pending = h.pending;
     octets::put_bytes(b, ODD_AT, &[(h.odd % 256) as u8]);
-    octets::put_bytes(b, PENDING_AT, &pending);
+    octets::put_bytes(b, PENDING_AT, &h.pending);
     octets::put_words(
         b,
         COUNT_AT,
@@ -215,10 +202,7 @@ pub fn encode(k: Kept, b: &mut [u8])
     if b.len() != LENGTH {
         return;
     }
-    let code = ((k.code % 256) as u32) * 16777216;
-    let s = k.state;
-    octets::put_words(b, 0, &[code, 0]);
-    let words = blocks::words(s);
-    octets::put_words(b, STATE_AT, &words);
+    octets::put_bytes(b, 0, &[(k.code % 256) as u8, 0, 0, 0, 0, 0, 0, 0]);
+    octets::put_words(b, STATE_AT, &blocks::words(k.state));
     put_held(hash_kept::held(k), b);
 }

@@ -22,7 +22,7 @@ pub whole-block : (x : List ℕ) → 32 ≤ length x → first_block x ≡ block
 unfolding first_block block_when
 whole-block x h = rw (le-leb 32 (length x) h)
 
--- a word is read from the bytes up to its end, and a block from the first 32
+-- a word is read from the bytes up to its end, and so is a block
 pub word-front : (n k : ℕ) (x : List ℕ) → 4 * k + 4 ≤ n → word_at (take n x) k ≡ word_at x k
 unfolding word_at
 word-front n k x h =
@@ -33,9 +33,9 @@ word-front n k x h =
       get_or-take n x (4 * k + 3) 0 (omega arith),
     )
 
-pub block-front : (x : List ℕ) → block_of (take 32 x) ≡ block_of x
+pub block-front : (n : ℕ) (x : List ℕ) → 32 ≤ n → block_of (take n x) ≡ block_of x
 unfolding block_of
-block-front x = by_words (word_at (take 32 x)) (word_at x) (λ k l. word-front 32 k x (omega arith))
+block-front n x h = by_words (word_at (take n x)) (word_at x) (λ k l. word-front n k x (omega arith))
 
 -- where there is room
 pub write_at_lem : (i : ℕ) (p l : List ℕ) → i + length p ≤ length l → write_at i p l ≡ overwrite_at i p l

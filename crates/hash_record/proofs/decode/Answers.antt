@@ -6,9 +6,9 @@ use Rattle.hash_record.proofs.decode.Goals as goal
 pub returns : goal.returns
 unfolding decode held_of
 returns c =
-    let h = c.held_in-h.ensures in
+    let h = c.held_in-odd.ensures in
     λ i. record {
-      code = c.wide.ensures i;
+      code = c.from.ensures i;
       odd = (h i).odd;
       state = c.state_in.ensures i;
       pending = (h i).pending;

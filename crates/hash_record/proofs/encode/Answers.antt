@@ -21,5 +21,5 @@ pub returns : goal.returns
 unfolding written pick
 returns c =
     c.put_held.ensures
-    ∙ rw (c.held.ensures, c.put_words-2.ensures, c.words-words.ensures, c.put_words.ensures, eq-eqb _ _ c.if-b-ne-LENGTH.false)
+    ∙ rw (c.held.ensures, c.put_words.ensures, c.words.ensures, c.put_bytes.ensures, eq-eqb _ _ c.if-b-ne-LENGTH.false)
     (all_parts c.args.k c.args.b.now c.if-b-ne-LENGTH.false (pending c))

@@ -6,18 +6,20 @@ use Rattle.hash_definition.specs.Record.{decode, well_formed, well_kept}
 use Rattle.hash_record.specs.Reading.{glance_of}
 use Rattle.hash_record.proofs.glance.Goals as goal
 
-pub returns-then-b-ne-LENGTH : goal.returns-then-b-ne-LENGTH
+pub returns-in-Err : goal.returns-in-Err
 unfolding glance_of pick
-returns-then-b-ne-LENGTH c = rw (ne_eqb _ _ c.if-b-ne-LENGTH.true, c.held.ensures, c.nothing.ensures)
+returns-in-Err c = rw (ne_eqb _ _ c.in-Err.ensures.1, c.held.ensures, c.nothing.ensures)
 
-pub returns : goal.returns
+pub returns-in-Ok : goal.returns-in-Ok
 unfolding glance_of pick well_formed well_kept decode
-returns c =
+returns-in-Ok c =
+    let r = c.in-Ok.ensures.1 in
     rw (
-      eq-eqb _ _ c.if-b-ne-LENGTH.false,
-      c.well_held-rest.ensures,
-      c.unused_zero-unused.ensures,
-      c.reserved_zero-reserved.ensures,
-      c.held_in-h.ensures,
-      c.wide-code.ensures,
+      eq-eqb _ _ r.long,
+      c.well_held.ensures,
+      c.unused_zero.ensures,
+      c.reserved_zero.ensures,
+      c.held_in-held.ensures,
+      c.from-code.ensures,
+      r.same,
     )

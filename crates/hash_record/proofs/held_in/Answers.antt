@@ -7,7 +7,7 @@ pub returns : goal.returns
 unfolding decode held_of
 returns c =
     λ i. record {
-      odd = c.wide.ensures i;
+      odd = c.from.ensures i;
       pending = c.pending_in.ensures i;
       high = c.number_at.ensures i;
       low = c.number_at-2.ensures i;

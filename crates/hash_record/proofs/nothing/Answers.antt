@@ -7,4 +7,4 @@ use Rattle.hash_record.proofs.nothing.Goals as goal
 pub returns : goal.returns
 unfolding nothing state_of
 returns c =
-    rw (c.zero.ensures, c.zero-2.ensures, c.zero-3.ensures, c.zero-4.ensures, c.zero-5.ensures)
+    rw c.zero-zero.ensures

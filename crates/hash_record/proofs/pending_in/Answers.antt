@@ -1,6 +1,6 @@
 -- `hash_record::pending_in` meets its contract: 32 bytes over 32 zeros.
 -- Assumes nothing.
-use mathlib.Core.Path.{◌≡◌, ◌∙◌}
+use mathlib.Core.Path.{◌∙◌}
 use Prim.Native.Nat.{◌≤◌}
 use native.Mathlib.Omega.{arith}
 use lib.ListN.{length, take, drop, replicate, length-drop}
@@ -14,6 +14,5 @@ pub returns : goal.returns
 unfolding decode
 returns c =
     let b = c.args.b.now in
-    let h : length b ≡ 216 = c.requires in
     let n : 32 ≤ length (drop 168 b) = omega (arith, length-drop 168 b) in
     c.pasted.ensures ∙ write_at_lem _ _ _ (omega (arith, length-take-le 32 (drop 168 b) n)) ∙ all_written (take 32 (drop 168 b)) (replicate 32 0) (length-take-le 32 (drop 168 b) n)

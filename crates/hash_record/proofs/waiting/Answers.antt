@@ -19,12 +19,12 @@ last : (b : List ℕ) → get_or b 215 0 % 32 ≡ pending_count (decode b)
 unfolding pending_count bytes_fed count_of decode number_at word_at word_of
 last b = omega (arith, get_or-drop 212 b 3 0)
 
-pub returns-then-b-ne-LENGTH : goal.returns-then-b-ne-LENGTH
+pub returns-in-Err : goal.returns-in-Err
 unfolding waiting_of pick
-returns-then-b-ne-LENGTH c = rw (ne_eqb _ _ c.if-b-ne-LENGTH.true)
+returns-in-Err c = rw (ne_eqb _ _ c.in-Err.ensures.1)
 
-pub returns : goal.returns
+pub returns-in-Ok : goal.returns-in-Ok
 unfolding waiting_of pick
-returns c =
-    let b = c.args.b.now in
-    rw (eq-eqb _ _ c.if-b-ne-LENGTH.false, c.wide.ensures) (last b)
+returns-in-Ok c =
+    let r = c.in-Ok.ensures.1 in
+    rw (eq-eqb _ _ r.long, c.from.ensures, r.same) (last c.args.b.now)

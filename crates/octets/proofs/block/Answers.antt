@@ -1,6 +1,7 @@
 -- `octets::block` meets its contract, with 32 bytes and with fewer.
 -- Assumes nothing.
 use mathlib.Core.Path.{◌∙◌, ap}
+use native.Mathlib.Omega.{arith}
 use borrow.Author.Tests.{lt-leb, le-leb}
 use Rattle.definition.specs.Block.{block_of}
 use Rattle.octets.specs.Total.{block_when, first_block}
@@ -15,4 +16,4 @@ pub returns-in-Some : goal.returns-in-Some
 unfolding first_block block_when
 returns-in-Some c =
     rw (le-leb 32 _ c.in-Some.ensures.cases.enough)
-    (c.full_block.ensures ∙ ap block_of c.in-Some.ensures.cases.same ∙ block-front c.args.t.now)
+    (c.full_block.ensures ∙ ap block_of c.in-Some.ensures.cases.same ∙ block-front 32 c.args.t.now (omega arith))
