@@ -1,15 +1,16 @@
--- The invariants of `squeeze::squeeze`.
+-- The invariant of `squeeze::squeeze`.
 use mathlib.Core.Path.{◌≡◌}
-use Prim.Native.Nat.{◌-◌, ◌/◌, ◌^◌, ◌<◌, ◌≤◌}
-use lib.ListN.{length}
+use lib.ListN.{take}
 use Rattle.definition.specs.Word.{bytes_of_all}
+use Rattle.definition.specs.State.{blocks_in}
+use Rattle.definition.specs.Final.{outputs}
 use Rattle.definition.specs.Buffer.{overwrite}
-use Rattle.squeeze.specs.Squeeze.{squeezed, words_to}
+use Rattle.squeeze.proofs.Words.{blanks}
 use Rattle.squeeze.proofs.squeeze.Given as goal
 
-abbrev pub invariant-loop-i : goal.invariant-loop-i
-invariant-loop-i l =
-    (l.i ≤ l.n) × ((l.n ≤ length l.initial.out / 4) × (length l.initial.out < 2 ^ 64)) × (l.q ≡ squeezed l.w l.initial.q l.i) × (l.out ≡ overwrite (bytes_of_all (words_to l.w l.initial.q l.i)) l.initial.out)
-
-abbrev pub decreases-loop-i : goal.decreases-loop-i
-decreases-loop-i l = l.n - l.i
+abbrev pub invariant-loop-k : goal.invariant-loop-k
+invariant-loop-k l =
+    record {
+      rounds : l.d ≡ blanks l.w l.fn.c l.k;
+      words : l.out ≡ overwrite (bytes_of_all (take l.n (outputs l.w l.k (blocks_in l.w l.fn.c.state)))) l.fn.out;
+    }
