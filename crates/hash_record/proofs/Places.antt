@@ -33,11 +33,6 @@ part_word b i n h l =
     let e : length (take n (drop i b)) ≡ n = length-take-le n (drop i b) (omega (arith, length-drop i b)) in
     rw (e, le-leb 4 n h) (word-front n 0 (drop i b) (omega arith))
 
--- a whole buffer written from its front is what was written
-pub all_written : (p l : List ℕ) → length p ≡ length l → overwrite_at 0 p l ≡ p
-unfolding overwrite_at
-all_written p l e = rw (drop_of_length-le l {i = 0 + length p} (omega arith)) (append-nil p)
-
 -- the state is 160 bytes, and the count 16
 length-state : (s : State) → length (bytes_of_all (words_of_all (five s))) ≡ 160
 unfolding words_of_all five words_of

@@ -39,7 +39,9 @@ fn state_in(b: &[u8; 216]) -> State
 fn pending_in(b: &[u8; 216]) -> [u8; 32]
     ensures { result ≡ (decode_of b.now).pending }
 {
-    octets::pasted([0u8; 32], 0, &b[PENDING_AT..COUNT_AT])
+    let mut p = [0u8; 32];
+    p.copy_from_slice(&b[PENDING_AT..COUNT_AT]);
+    p
 }
 
 // Eight bytes from place i on, the highest first.
