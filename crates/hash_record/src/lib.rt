@@ -24,7 +24,7 @@ const PENDING_AT: usize = 168;
 const COUNT_AT: usize = 200;
 
 // The state's blocks and the pending bytes of a record.
-fn state_in(b: &[u8; 216]) -> State
+fn state_in(b: &[u8; LENGTH]) -> State
     ensures { result ≡ (decode_of b.now).state }
 {
     State {
@@ -36,7 +36,7 @@ fn state_in(b: &[u8; 216]) -> State
     }
 }
 
-fn pending_in(b: &[u8; 216]) -> [u8; 32]
+fn pending_in(b: &[u8; LENGTH]) -> [u8; 32]
     ensures { result ≡ (decode_of b.now).pending }
 {
     let mut p = [0u8; 32];
@@ -45,7 +45,7 @@ fn pending_in(b: &[u8; 216]) -> [u8; 32]
 }
 
 // Eight bytes from place i on, the highest first.
-fn number_at(b: &[u8; 216], i: usize) -> u64
+fn number_at(b: &[u8; LENGTH], i: usize) -> u64
     requires { i + 8 ≤ record_length }
     ensures { result ≡ number_at i b.now }
 {
@@ -55,7 +55,7 @@ fn number_at(b: &[u8; 216], i: usize) -> u64
 }
 
 // What a record holds beside code and state.
-fn held_in(b: &[u8; 216]) -> Held
+fn held_in(b: &[u8; LENGTH]) -> Held
     ensures { result ≡ held_of (decode_of b.now) }
 {
     Held {
@@ -67,7 +67,7 @@ fn held_in(b: &[u8; 216]) -> Held
 }
 
 // What a record holds.
-fn decode(b: &[u8; 216]) -> Kept
+fn decode(b: &[u8; LENGTH]) -> Kept
     ensures { result ≡ decode_of b.now }
 {
     let Held {
@@ -108,14 +108,14 @@ fn nothing() -> Kept
 }
 
 // Whether the six bytes after code and odd bits are zero.
-fn reserved_zero(b: &[u8; 216]) -> bool
+fn reserved_zero(b: &[u8; LENGTH]) -> bool
     ensures { result ≡ all_zero (take 6 (drop 2 b.now)) }
 {
     b[2..STATE_AT].iter().fold(0, |set, x| set | *x) == 0
 }
 
 // Whether the state's blocks that the code doesn't use are zero.
-fn unused_zero(b: &[u8; 216]) -> bool
+fn unused_zero(b: &[u8; LENGTH]) -> bool
     ensures { result ≡ all_zero (words_of_all (drop (block_count (width_at (decode_of b.now).code)) (five (decode_of b.now).state))) }
 {
     let fourth = &b[STATE_AT + 96..];
