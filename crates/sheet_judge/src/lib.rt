@@ -5,8 +5,10 @@
 ghost use Rattle.std.specs.Prelude.{◌≡◌, [], ◌∷◌};
 ghost use Rattle.definition.specs.Luffa.{bytes_at};
 ghost use Rattle.definition.specs.Refusal.{first_of, when_done};
+ghost use Rattle.refusals.specs.Number.{number_of};
 ghost use Rattle.sheet_definition.specs.Refusals.{sheet_refusal, marks_refusal, place_refusal, full_refusal, size_refusal, claim_refusal, list_refusal, build_refusals, change_refusals, append_refusals, drop_refusals, close_up_refusals};
 
+use refusals::Refusal;
 use sheet_definition::{MARK, MOST, RECORD};
 
 // 5: whether the buffer holds n records, at most 1,024. Lengths are divided and n isn't multiplied, so that nothing wraps.
@@ -21,6 +23,20 @@ pub fn marks_room(n: usize, marks: usize) -> u32
     ensures { result ≡ first_of (marks_refusal n marks ∷ []) }
 {
     refusals::when(marks / MARK <= n / 4, refusals::MARKS)
+}
+
+// 5: whether the buffer holds n records, at most 1,024. Lengths are divided and n isn't multiplied, so that nothing wraps.
+pub fn has_records(n: usize, sheet: usize) -> Result<(), Refusal>
+    ensures { number_of result ≡ first_of (sheet_refusal n sheet ∷ []) }
+{
+    Refusal::Sheet.when((MOST < n) | (sheet / RECORD < n))
+}
+
+// 6: whether there is room for the marks of n records.
+pub fn has_marks(n: usize, marks: usize) -> Result<(), Refusal>
+    ensures { number_of result ≡ first_of (marks_refusal n marks ∷ []) }
+{
+    Refusal::Marks.when(marks / MARK <= n / 4)
 }
 
 // 7: whether n records have such a place.
