@@ -1,10 +1,10 @@
 // Which refusal comes first, from codes, numbers and lengths alone (document 01, "Refusal numbers", and document 02, Q-11): a function for each
-// refusal, and for each call its list of them. Whether a claim is stale is judged afterwards.
+// refusal, and for each call its list of them, one after the other. Whether a claim is stale is judged afterwards.
 #![tactic(auto)]
 
 ghost use Rattle.std.specs.Prelude.{◌≡◌, [], ◌∷◌};
 ghost use Rattle.definition.specs.Luffa.{bytes_at};
-ghost use Rattle.definition.specs.Refusal.{first_of, when_done};
+ghost use Rattle.definition.specs.Refusal.{first_of};
 ghost use Rattle.refusals.specs.Number.{number_of};
 ghost use Rattle.sheet_definition.specs.Refusals.{sheet_refusal, marks_refusal, place_refusal, full_refusal, size_refusal, claim_refusal, list_refusal, build_refusals, change_refusals, append_refusals, drop_refusals, close_up_refusals};
 
@@ -40,63 +40,56 @@ pub fn has_marks(n: usize, marks: usize) -> Result<(), Refusal>
 }
 
 // 7: whether n records have such a place.
-fn has_place(n: usize, place: usize) -> u32
-    ensures { result ≡ first_of (place_refusal n place ∷ []) }
+fn has_place(n: usize, place: usize) -> Result<(), Refusal>
+    ensures { number_of result ≡ first_of (place_refusal n place ∷ []) }
 {
-    refusals::when(n <= place, refusals::PLACE)
+    Refusal::Place.when(n <= place)
 }
 
 // 8: whether there is room for a record more. Of n + 1 records floor(n/4) groups are full, and one more where r = 3.
-fn one_more(n: usize, sheet: usize, marks: usize) -> u32
-    ensures { result ≡ first_of (full_refusal n sheet marks ∷ []) }
+fn one_more(n: usize, sheet: usize, marks: usize) -> Result<(), Refusal>
+    ensures { number_of result ≡ first_of (full_refusal n sheet marks ∷ []) }
 {
-    refusals::when(
-        (n == MOST) | (sheet / RECORD <= n) | (marks / MARK <= n / 4 + n % 4 / 3),
-        refusals::FULL,
-    )
+    Refusal::Full.when((n == MOST) | (sheet / RECORD <= n) | (marks / MARK <= n / 4 + n % 4 / 3))
 }
 
 // 9: whether there are 40 bytes for each new record. Lengths are divided, so that nothing wraps.
-fn records_size(count: usize, records: usize) -> u32
-    ensures { result ≡ first_of (size_refusal count «records» ∷ []) }
+fn records_size(count: usize, records: usize) -> Result<(), Refusal>
+    ensures { number_of result ≡ first_of (size_refusal count «records» ∷ []) }
 {
-    refusals::when(
-        (records / RECORD != count) | (records % RECORD != 0),
-        refusals::SIZE,
-    )
+    Refusal::Size.when((records / RECORD != count) | (records % RECORD != 0))
 }
 
 // 10: whether the claim has the digest's bytes.
-fn claim_size(code: usize, claim: usize) -> u32
-    ensures { result ≡ first_of (claim_refusal (bytes_at code) claim ∷ []) }
+fn claim_size(code: usize, claim: usize) -> Result<(), Refusal>
+    ensures { number_of result ≡ first_of (claim_refusal (bytes_at code) claim ∷ []) }
 {
-    refusals::when(claim != 4 * codes::words(code), refusals::CLAIM)
+    Refusal::Claim.when(claim != 4 * codes::words(code))
 }
 
 // 23: whether the list has room for a place of each of n records.
-fn list_room(n: usize, places: usize) -> u32
-    ensures { result ≡ first_of (list_refusal n places ∷ []) }
+fn list_room(n: usize, places: usize) -> Result<(), Refusal>
+    ensures { number_of result ≡ first_of (list_refusal n places ∷ []) }
 {
-    refusals::when(places < n, refusals::PLACES)
+    Refusal::Places.when(places < n)
 }
 
 // The four refusals that every sheet call begins with.
-pub fn build(code: usize, sheet: usize, n: usize, marks: usize, out: usize) -> u32
-    ensures { result ≡ first_of (build_refusals (record { code = code; n = n; sheet_length = sheet; marks_length = marks; out_length = out })) }
+pub fn build(code: usize, sheet: usize, n: usize, marks: usize, out: usize) -> Result<(), Refusal>
+    ensures { number_of result ≡ first_of (build_refusals (record { code = code; n = n; sheet_length = sheet; marks_length = marks; out_length = out })) }
 {
-    let one = refusals::width(code);
-    let two = refusals::out(codes::words(code), out);
-    let five = records(n, sheet);
-    let six = marks_room(n, marks);
-    refusals::first(one, refusals::first(two, refusals::first(five, six)))
+    refusals::known_code(code)?;
+    refusals::room(codes::words(code), out)?;
+    has_records(n, sheet)?;
+    has_marks(n, marks)
 }
 
-// A save's own refusal, then those of the new records, so many, and of the claim.
-pub fn sized(own: u32, code: usize, count: usize, records: usize, claim: usize) -> u32
-    ensures { result ≡ when_done own (first_of (size_refusal count «records» ∷ claim_refusal (bytes_at code) claim ∷ [])) own }
+// The refusals of a save's new records, so many, and of its claim.
+pub fn sized(code: usize, count: usize, records: usize, claim: usize) -> Result<(), Refusal>
+    ensures { number_of result ≡ first_of (size_refusal count «records» ∷ claim_refusal (bytes_at code) claim ∷ []) }
 {
-    let sizes = refusals::first(records_size(count, records), claim_size(code, claim));
-    refusals::first(own, sizes)
+    records_size(count, records)?;
+    claim_size(code, claim)
 }
 
 pub fn change(
@@ -108,11 +101,12 @@ pub fn change(
     record: usize,
     claim: usize,
     out: usize,
-) -> u32
-    ensures { result ≡ first_of (change_refusals (record { code = code; n = n; sheet_length = sheet; marks_length = marks; out_length = out }) place «record» claim) }
+) -> Result<(), Refusal>
+    ensures { number_of result ≡ first_of (change_refusals (record { code = code; n = n; sheet_length = sheet; marks_length = marks; out_length = out }) place «record» claim) }
 {
-    let own = sized(has_place(n, place), code, 1, record, claim);
-    refusals::first(build(code, sheet, n, marks, out), own)
+    build(code, sheet, n, marks, out)?;
+    has_place(n, place)?;
+    sized(code, 1, record, claim)
 }
 
 pub fn append(
@@ -123,18 +117,27 @@ pub fn append(
     record: usize,
     claim: usize,
     out: usize,
-) -> u32
-    ensures { result ≡ first_of (append_refusals (record { code = code; n = n; sheet_length = sheet; marks_length = marks; out_length = out }) «record» claim) }
+) -> Result<(), Refusal>
+    ensures { number_of result ≡ first_of (append_refusals (record { code = code; n = n; sheet_length = sheet; marks_length = marks; out_length = out }) «record» claim) }
 {
-    let own = sized(one_more(n, sheet, marks), code, 1, record, claim);
-    refusals::first(build(code, sheet, n, marks, out), own)
+    build(code, sheet, n, marks, out)?;
+    one_more(n, sheet, marks)?;
+    sized(code, 1, record, claim)
 }
 
-pub fn drop(code: usize, sheet: usize, n: usize, marks: usize, claim: usize, out: usize) -> u32
-    ensures { result ≡ first_of (drop_refusals (record { code = code; n = n; sheet_length = sheet; marks_length = marks; out_length = out }) claim) }
+pub fn drop(
+    code: usize,
+    sheet: usize,
+    n: usize,
+    marks: usize,
+    claim: usize,
+    out: usize,
+) -> Result<(), Refusal>
+    ensures { number_of result ≡ first_of (drop_refusals (record { code = code; n = n; sheet_length = sheet; marks_length = marks; out_length = out }) claim) }
 {
-    let own = refusals::first(has_place(n, 0), claim_size(code, claim));
-    refusals::first(build(code, sheet, n, marks, out), own)
+    build(code, sheet, n, marks, out)?;
+    has_place(n, 0)?;
+    claim_size(code, claim)
 }
 
 pub fn close_up(
@@ -145,9 +148,10 @@ pub fn close_up(
     places: usize,
     claim: usize,
     out: usize,
-) -> u32
-    ensures { result ≡ first_of (close_up_refusals (record { code = code; n = n; sheet_length = sheet; marks_length = marks; out_length = out }) places claim) }
+) -> Result<(), Refusal>
+    ensures { number_of result ≡ first_of (close_up_refusals (record { code = code; n = n; sheet_length = sheet; marks_length = marks; out_length = out }) places claim) }
 {
-    let own = refusals::first(list_room(n, places), claim_size(code, claim));
-    refusals::first(build(code, sheet, n, marks, out), own)
+    build(code, sheet, n, marks, out)?;
+    list_room(n, places)?;
+    claim_size(code, claim)
 }
