@@ -18,8 +18,7 @@ use Rattle.sheet_definition.proofs.Outcomes.{accepted, refused_is, stale_is, don
 use Rattle.sheet_definition.proofs.Refused.{Fits}
 use Rattle.sheet_definition.proofs.Saves.{check-rounds}
 use Rattle.sheet_definition.proofs.Edits.{proper}
-use Rattle.sheet_work.specs.declared.Admitted.{Admitted}
-use Rattle.sheet_work.specs.Admission.{admission}
+use Rattle.sheet_work.specs.Admission.{Admitted, admission}
 
 -- the check takes few rounds
 pub few-rounds : (w : World) → record_bytes * w.n ≤ length w.sheet → (checked w).rounds < 2 ^ 32

@@ -2,16 +2,62 @@
 // round is run by `rounds::counted_round`, and its count goes on to the answer.
 #![tactic(auto)]
 
-ghost use Rattle.std.specs.Prelude.{◌≡◌, not, ◌+◌, ◌*◌, ◌^◌, ◌<◌, ◌≤◌, length, take};
+ghost use Rattle.std.specs.Prelude.{◌≡◌, ◌+◌, ◌*◌, ◌^◌, ◌<◌, ◌≤◌, length};
 ghost use Rattle.definition.specs.Luffa.{bytes_at};
-ghost use Rattle.definition.specs.Buffer.{overwrite, same};
+ghost use Rattle.definition.specs.Buffer.{overwrite};
+ghost use Rattle.refusals.specs.Number.{number_of};
 ghost use Rattle.sheet_definition.specs.Sheet.{most, record_bytes, mark_words, q};
 ghost use Rattle.sheet_definition.specs.Marks.{worked};
-ghost use Rattle.sheet_definition.specs.Save.{checked, stale_claim};
-ghost use Rattle.sheet_work.specs.Admission.{admission};
+ghost use Rattle.sheet_work.specs.Admission.{admitted, admission};
+ghost use Rattle.sheet_work.specs.Answered.{answer_of};
 
 use definition::Counted;
-use sheet_definition::{GROUP, RECORD};
+use refusals::Refusal;
+use sheet_definition::{Answer, GROUP, RECORD};
+
+// What a save that is done leaves beside the buffers: the records of the sheet, and the rounds run.
+#[derive(Clone, Copy, Debug, PartialEq, Eq)]
+pub struct Saved {
+    pub count: usize,
+    pub rounds: u64,
+}
+
+// Why a save is turned away, and the rounds that its check took.
+#[derive(Clone, Copy, Debug, PartialEq, Eq)]
+pub struct Turned {
+    pub refusal: Refusal,
+    pub rounds: u64,
+}
+
+// Where the arguments are refused nothing is checked.
+impl From<Refusal> for Turned {
+    ghost from_gives = { λ r t. t ≡ record { refusal = r; rounds = 0 } };
+
+    fn from(refusal: Refusal) -> Turned {
+        Turned {
+            refusal: refusal,
+            rounds: 0,
+        }
+    }
+}
+
+// What C is answered of a call over n records: where it is turned away the count is the one that it was handed.
+pub fn answer(n: usize, saved: Result<Saved, Turned>) -> Answer
+    ensures { result ≡ answer_of n saved }
+{
+    match saved {
+        Ok(s) => Answer {
+            number: 0,
+            count: s.count as u64,
+            rounds: s.rounds,
+        },
+        Err(t) => Answer {
+            number: u32::from(t.refusal) as u64,
+            count: n as u64,
+            rounds: t.rounds,
+        },
+    }
+}
 
 // From mark m as found to the end of n records: the marks after m are written on the way, and the digest into the front of out. The count
 // goes on from the rounds that were run before.
@@ -50,73 +96,42 @@ pub fn work_on(
     e.rounds
 }
 
-// Whether a claim isn't the front of a buffer.
-fn differs(claim: &[u8], digest: &[u8]) -> bool
-    requires { length claim.now ≤ length digest.now }
-    ensures { result ≡ not (same claim.now (take (length claim.now) digest.now)) }
-{
-    let mut t = claim;
-    let mut d = digest;
-    while 0 < t.len() {
-        if t[0] != d[0] {
-            return true;
-        }
-        t = &t[1..];
-        d = &d[1..];
-    }
-    false
-}
-
-// What the check of a save found, and the rounds it took.
-#[derive(Clone, Copy)]
-struct Checked {
-    stale: bool,
-    rounds: u64,
-}
-
-// Whether a claim isn't the digest of the sheet held, worked out from mark q as found.
-fn check(code: usize, sheet: &[u8], n: usize, marks: &mut [u32], claim: &[u8]) -> Checked
-    requires { (n ≤ most) × (record_bytes * n ≤ length sheet.now) × (mark_words * (q n + 1) ≤ length marks.old) × (length claim.now ≡ bytes_at code) }
-    ensures value { result ≡ record { stale = stale_claim (record { code = code; n = n; sheet = sheet.now; marks = marks.old }) claim.now; rounds = (checked (record { code = code; n = n; sheet = sheet.now; marks = marks.old })).rounds } }
-    ensures marks_unchanged { marks.new ≡ marks.old }
-{
-    let mut digest = [0u8; 64];
-    let rounds = work_on(code, sheet, n, marks, n / 4, 0, &mut digest);
-    Checked {
-        stale: differs(claim, &digest),
-        rounds: rounds,
-    }
-}
-
-// What a save comes to before it writes: the number that refuses it, or 0, and the rounds run so far.
-#[derive(Clone, Copy)]
-pub struct Admitted {
-    pub number: u32,
-    pub rounds: u64,
-}
-
-// Judged, checked, stale or go on: so every save begins, with the number that its arguments were judged by.
-pub fn admit(
-    number: u32,
+// The rounds run, where a claim is the digest of the sheet held, worked out from mark q as found; else the save is stale.
+fn check(
     code: usize,
     sheet: &[u8],
     n: usize,
     marks: &mut [u32],
     claim: &[u8],
-) -> Admitted
-    requires { number ≡ 0 → (n ≤ most) × (record_bytes * n ≤ length sheet.now) × (mark_words * (q n + 1) ≤ length marks.old) × (length claim.now ≡ bytes_at code) }
-    ensures value { result ≡ admission number (record { code = code; n = n; sheet = sheet.now; marks = marks.old }) claim.now }
+) -> Result<u64, Turned>
+    requires { (n ≤ most) × (record_bytes * n ≤ length sheet.now) × (mark_words * (q n + 1) ≤ length marks.old) × (length claim.now ≡ bytes_at code) }
+    ensures value { admitted result ≡ admission 0 (record { code = code; n = n; sheet = sheet.now; marks = marks.old }) claim.now }
     ensures marks_unchanged { marks.new ≡ marks.old }
 {
-    if number != refusals::DONE {
-        return Admitted {
-            number: number,
-            rounds: 0,
-        };
+    let mut digest = [0u8; 64];
+    let rounds = work_on(code, sheet, n, marks, n / 4, 0, &mut digest);
+    if digest.starts_with(claim) {
+        return Ok(rounds);
     }
-    let c = check(code, sheet, n, marks, claim);
-    Admitted {
-        number: refusals::when(c.stale, refusals::STALE),
-        rounds: c.rounds,
-    }
+    Err(Turned {
+        refusal: Refusal::Stale,
+        rounds: rounds,
+    })
+}
+
+// Judged, checked, stale or go on after so many rounds: so every save begins, with what its arguments were judged to be.
+pub fn admit(
+    judged: Result<(), Refusal>,
+    code: usize,
+    sheet: &[u8],
+    n: usize,
+    marks: &mut [u32],
+    claim: &[u8],
+) -> Result<u64, Turned>
+    requires { number_of judged ≡ 0 → (n ≤ most) × (record_bytes * n ≤ length sheet.now) × (mark_words * (q n + 1) ≤ length marks.old) × (length claim.now ≡ bytes_at code) }
+    ensures value { admitted result ≡ admission (number_of judged) (record { code = code; n = n; sheet = sheet.now; marks = marks.old }) claim.now }
+    ensures marks_unchanged { marks.new ≡ marks.old }
+{
+    judged?;
+    check(code, sheet, n, marks, claim)
 }
