@@ -3,38 +3,39 @@
 #![tactic(auto)]
 
 ghost use Rattle.std.specs.Prelude.{◌≡◌, length};
+ghost use Rattle.refusals.specs.Number.{number_of};
 ghost use Rattle.sheet_definition.specs.SheetCalls.{build_outcome, change_outcome, append_outcome, drop_outcome};
 ghost use Rattle.sheet_definition.specs.Save.{save_outcome};
+ghost use Rattle.sheet_work.specs.Answered.{answer_of};
 ghost use Rattle.sheet.specs.Save.{Valid, record_save};
 
-use refusals::DONE;
-use sheet_definition::{Answer, MOST, RECORD};
+use refusals::Refusal;
+use sheet_definition::RECORD;
+use sheet_work::{Saved, Turned};
 
 // All marks of a sheet, and its digest.
-pub fn build(code: usize, sheet: &[u8], n: usize, marks: &mut [u32], out: &mut [u8]) -> Answer
-    ensures { record { answer = result; sheet = sheet.now; marks = marks.new; out = out.new } ≡ build_outcome code sheet.now n marks.old out.old }
+pub fn build(
+    code: usize,
+    sheet: &[u8],
+    n: usize,
+    marks: &mut [u32],
+    out: &mut [u8],
+) -> Result<Saved, Turned>
+    ensures { record { answer = answer_of n result; sheet = sheet.now; marks = marks.new; out = out.new } ≡ build_outcome code sheet.now n marks.old out.old }
 {
-    let number = sheet_judge::build(code, sheet.len(), n, marks.len(), out.len());
-    if number != DONE {
-        return Answer {
-            number: number as u64,
-            count: n as u64,
-            rounds: 0,
-        };
-    }
+    sheet_judge::build(code, sheet.len(), n, marks.len(), out.len())?;
     sheet_marks::write(marks, 0, rounds::start(codes::width(code)));
     let rounds = sheet_work::work_on(code, sheet, n, marks, 0, 0, out);
-    Answer {
-        number: DONE as u64,
-        count: n as u64,
+    Ok(Saved {
+        count: n,
         rounds: rounds,
-    }
+    })
 }
 
-// A save of one record, by the number that its arguments were judged by: the record written at its place, from n records to count, where the
+// A save of one record, by what its arguments were judged to be: the record written at its place, from n records to count, where the
 // claim is the digest of the sheet held.
 fn save(
-    number: u32,
+    judged: Result<(), Refusal>,
     code: usize,
     sheet: &mut [u8],
     n: usize,
@@ -44,26 +45,18 @@ fn save(
     count: usize,
     claim: &[u8],
     out: &mut [u8],
-) -> Answer
-    requires { number ≡ 0 → Valid code (length sheet.old) n (length marks.old) place (length «record».now) count (length claim.now) (length out.old) }
-    ensures { record { answer = result; sheet = sheet.new; marks = marks.new; out = out.new } ≡ save_outcome (record { code = code; n = n; sheet = sheet.old; marks = marks.old }) (record_save number (record { code = code; n = n; sheet = sheet.old; marks = marks.old }) place «record».now count claim.now out.old) }
+) -> Result<Saved, Turned>
+    requires { number_of judged ≡ 0 → Valid code (length sheet.old) n (length marks.old) place (length «record».now) count (length claim.now) (length out.old) }
+    ensures { record { answer = answer_of n result; sheet = sheet.new; marks = marks.new; out = out.new } ≡ save_outcome (record { code = code; n = n; sheet = sheet.old; marks = marks.old }) (record_save (number_of judged) (record { code = code; n = n; sheet = sheet.old; marks = marks.old }) place «record».now count claim.now out.old) }
 {
-    let begun = sheet_work::admit(number, code, sheet, n, marks, claim);
-    if begun.number != DONE {
-        return Answer {
-            number: begun.number as u64,
-            count: n as u64,
-            rounds: begun.rounds,
-        };
-    }
+    let before = sheet_work::admit(judged, code, sheet, n, marks, claim)?;
     octets::put_bytes(sheet, RECORD * place, record);
     sheet_marks::clear(marks, n, count);
-    let rounds = sheet_work::work_on(code, sheet, count, marks, place / 4, begun.rounds, out);
-    Answer {
-        number: DONE as u64,
-        count: count as u64,
+    let rounds = sheet_work::work_on(code, sheet, count, marks, place / 4, before, out);
+    Ok(Saved {
+        count: count,
         rounds: rounds,
-    }
+    })
 }
 
 // A record replaced, where the claim is the digest of the sheet held.
@@ -76,10 +69,10 @@ pub fn change(
     record: &[u8],
     claim: &[u8],
     out: &mut [u8],
-) -> Answer
-    ensures { record { answer = result; sheet = sheet.new; marks = marks.new; out = out.new } ≡ change_outcome code sheet.old n marks.old place «record».now claim.now out.old }
+) -> Result<Saved, Turned>
+    ensures { record { answer = answer_of n result; sheet = sheet.new; marks = marks.new; out = out.new } ≡ change_outcome code sheet.old n marks.old place «record».now claim.now out.old }
 {
-    let number = sheet_judge::change(
+    let judged = sheet_judge::change(
         code,
         sheet.len(),
         n,
@@ -89,7 +82,7 @@ pub fn change(
         claim.len(),
         out.len(),
     );
-    save(number, code, sheet, n, marks, place, record, n, claim, out)
+    save(judged, code, sheet, n, marks, place, record, n, claim, out)
 }
 
 // A record added at the end, where the claim is the digest of the sheet held.
@@ -101,10 +94,10 @@ pub fn append(
     record: &[u8],
     claim: &[u8],
     out: &mut [u8],
-) -> Answer
-    ensures { record { answer = result; sheet = sheet.new; marks = marks.new; out = out.new } ≡ append_outcome code sheet.old n marks.old «record».now claim.now out.old }
+) -> Result<Saved, Turned>
+    ensures { record { answer = answer_of n result; sheet = sheet.new; marks = marks.new; out = out.new } ≡ append_outcome code sheet.old n marks.old «record».now claim.now out.old }
 {
-    let number = sheet_judge::append(
+    let judged = sheet_judge::append(
         code,
         sheet.len(),
         n,
@@ -113,9 +106,9 @@ pub fn append(
         claim.len(),
         out.len(),
     );
-    // a full sheet is refused, so nothing is added to a count that has no room for it
-    let more = n + (n < MOST) as usize;
-    save(number, code, sheet, n, marks, n, record, more, claim, out)
+    // a full sheet is refused, so a count that can't rise is never used
+    let more = n.saturating_add(1);
+    save(judged, code, sheet, n, marks, n, record, more, claim, out)
 }
 
 // The last record taken away and its room zeroed, where the claim is the digest of the sheet held.
@@ -126,13 +119,13 @@ pub fn drop(
     marks: &mut [u32],
     claim: &[u8],
     out: &mut [u8],
-) -> Answer
-    ensures { record { answer = result; sheet = sheet.new; marks = marks.new; out = out.new } ≡ drop_outcome code sheet.old n marks.old claim.now out.old }
+) -> Result<Saved, Turned>
+    ensures { record { answer = answer_of n result; sheet = sheet.new; marks = marks.new; out = out.new } ≡ drop_outcome code sheet.old n marks.old claim.now out.old }
 {
-    let number = sheet_judge::drop(code, sheet.len(), n, marks.len(), claim.len(), out.len());
-    // an empty sheet is refused, so nothing is taken from 0
-    let last = n - (0 < n) as usize;
+    let judged = sheet_judge::drop(code, sheet.len(), n, marks.len(), claim.len(), out.len());
+    // an empty sheet is refused, so a count that can't fall is never used
+    let last = n.saturating_sub(1);
     save(
-        number, code, sheet, n, marks, last, &[0u8; 40], last, claim, out,
+        judged, code, sheet, n, marks, last, &[0u8; 40], last, claim, out,
     )
 }

@@ -1,14 +1,10 @@
 -- `sheet::append` meets its contract: judged, and then a save of one record.
 -- Assumes nothing.
 use mathlib.Core.Path.{◌≡◌, sym, ◌∙◌}
-use Prim.Native.Nat.{ℕ, ◌+◌, ◌<◌}
-use native.Mathlib.Decide.{dec_le}
+use Prim.Native.Nat.{ℕ, ◌+◌, ◌-◌, ◌^◌, ◌<◌, min}
 use mathlib.Core.List.{List}
 use native.Mathlib.Omega.{arith}
-use borrow.Author.Tests.{lt-ltb, le-ltb}
-use lib.Dec.{ltb}
 use lib.ListN.{length}
-use mir.Val.{bool_byte}
 use Rattle.definition.specs.Refusal.{first_of}
 use Rattle.sheet_definition.specs.Sheet.{World, record_bytes}
 use Rattle.sheet_definition.specs.SheetCalls.{refusals_of, one_record, edit_of, save_of, plain}
@@ -19,33 +15,25 @@ use Rattle.sheet_marks.proofs.Total.{cleared_none}
 use Rattle.sheet.proofs.Saved.{judged, saved}
 use Rattle.sheet.proofs.append.Goals as goal
 
--- the count that is asked for
-abbrev more : ℕ → ℕ
-more n = n + bool_byte (ltb n 1024)
-
-pub overflow_add-more : goal.overflow_add-more
-overflow_add-more c =
-    let n = c.args.n in
-    elim (dec_le 1024 n) [ yes h ↦ rw (le-ltb n 1024 h) (omega arith) | no h ↦ rw (lt-ltb n 1024 (omega arith)) (omega arith) ]
-
 -- the record has its size, and the edit is the call's
-one : (w : World) (x claim out : List ℕ) {k : ℕ} → k ≡ first_of (save_of w (plain (Append x) claim out)).refusals → k ≡ 0
-    → (length x ≡ record_bytes) × (one_record w w.n x (more w.n) (cleared w.n (more w.n) w.marks) ≡ edit_of w (Append x))
+one : (w : World) (x claim out : List ℕ) {k more : ℕ} → more ≡ min (w.n + 1) (2 ^ 64 - 1) → k ≡ first_of (save_of w (plain (Append x) claim out)).refusals → k ≡ 0
+    → (length x ≡ record_bytes) × (one_record w w.n x more (cleared w.n more w.marks) ≡ edit_of w (Append x))
 unfolding save_of refusals_of edit_of one_record
-one w x claim out e z =
+one w x claim out {more = more} m e z =
     let h : w.n < 1024 = omega (arith, ((proper w (plain (Append x) claim out)).fair (sym e ∙ z)).few) in
-    (append-size w (plain (Append x) claim out) x (sym e ∙ z), rw (lt-ltb w.n 1024 h, cleared_none w.n (w.n + 1) w.marks (omega arith)))
+    let f : more ≡ w.n + 1 = omega arith in
+    (append-size w (plain (Append x) claim out) x (sym e ∙ z), rw (f, cleared_none w.n (w.n + 1) w.marks (omega arith)))
 
 pub save-requires : goal.save-requires
 unfolding save_of refusals_of
 save-requires c =
     let a = c.args in
     let w : World = record { code = a.code; n = a.n; sheet = a.sheet.now; marks = a.marks.now } in
-    judged w (Append a.«record».now) a.claim.now a.out.now _ _ _ c.append-number.ensures (one w a.«record».now a.claim.now a.out.now c.append-number.ensures)
+    judged w (Append a.«record».now) a.claim.now a.out.now _ _ _ c.append-judged.ensures (one w a.«record».now a.claim.now a.out.now c.saturating_add-more.ensures c.append-judged.ensures)
 
 pub returns : goal.returns
 unfolding save_of refusals_of
 returns c =
     let a = c.args in
     let w : World = record { code = a.code; n = a.n; sheet = a.sheet.now; marks = a.marks.now } in
-    saved w (Append a.«record».now) a.claim.now a.out.now _ _ _ c.append-number.ensures (one w a.«record».now a.claim.now a.out.now c.append-number.ensures) c.save.ensures
+    saved w (Append a.«record».now) a.claim.now a.out.now _ _ _ c.append-judged.ensures (one w a.«record».now a.claim.now a.out.now c.saturating_add-more.ensures c.append-judged.ensures) c.save.ensures

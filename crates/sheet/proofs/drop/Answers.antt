@@ -2,13 +2,9 @@
 -- Assumes nothing.
 use mathlib.Core.Path.{◌≡◌, sym, ◌∙◌}
 use Prim.Native.Nat.{ℕ, ◌-◌, ◌<◌}
-use native.Mathlib.Decide.{dec_le}
 use mathlib.Core.List.{List}
 use native.Mathlib.Omega.{arith}
-use borrow.Author.Tests.{lt-ltb, le-ltb}
-use lib.Dec.{ltb}
 use lib.ListN.{length, replicate, length-replicate}
-use mir.Val.{bool_byte}
 use Rattle.definition.specs.Refusal.{first_of}
 use Rattle.sheet_definition.specs.Sheet.{World, record_bytes}
 use Rattle.sheet_definition.specs.SheetCalls.{refusals_of, one_record, edit_of, save_of, plain}
@@ -19,33 +15,24 @@ use Rattle.sheet_marks.proofs.Total.{cleared-past}
 use Rattle.sheet.proofs.Saved.{judged, saved}
 use Rattle.sheet.proofs.drop.Goals as goal
 
--- the last place
-abbrev last : ℕ → ℕ
-last n = n - bool_byte (ltb 0 n)
-
-pub overflow_sub-last : goal.overflow_sub-last
-overflow_sub-last c =
-    let n = c.args.n in
-    elim (dec_le n 0) [ yes h ↦ rw (le-ltb 0 n h) (omega arith) | no h ↦ rw (lt-ltb 0 n (omega arith)) (omega arith) ]
-
 -- the record has its size, and the edit is the call's
-one : (w : World) (claim out : List ℕ) {k : ℕ} → k ≡ first_of (save_of w (plain Drop claim out)).refusals → k ≡ 0
-    → (length {A = ℕ} (replicate record_bytes 0) ≡ record_bytes) × (one_record w (last w.n) (replicate record_bytes 0) (last w.n) (cleared w.n (last w.n) w.marks) ≡ edit_of w Drop)
+one : (w : World) (claim out : List ℕ) {k last : ℕ} → last ≡ w.n - 1 → k ≡ first_of (save_of w (plain Drop claim out)).refusals → k ≡ 0
+    → (length {A = ℕ} (replicate record_bytes 0) ≡ record_bytes) × (one_record w last (replicate record_bytes 0) last (cleared w.n last w.marks) ≡ edit_of w Drop)
 unfolding save_of refusals_of edit_of one_record
-one w claim out e z =
+one w claim out l e z =
     let h : 0 < w.n = omega (arith, ((proper w (plain Drop claim out)).fair (sym e ∙ z)).past-held) in
-    (length-replicate {A = ℕ} record_bytes 0, rw (lt-ltb 0 w.n h, cleared-past w.n (w.n - 1) w.marks (omega arith) ((proper w (plain Drop claim out)).room (sym e ∙ z)).marks-room))
+    (length-replicate {A = ℕ} record_bytes 0, rw (l, cleared-past w.n (w.n - 1) w.marks (omega arith) ((proper w (plain Drop claim out)).room (sym e ∙ z)).marks-room))
 
 pub save-requires : goal.save-requires
 unfolding save_of refusals_of
 save-requires c =
     let a = c.args in
     let w : World = record { code = a.code; n = a.n; sheet = a.sheet.now; marks = a.marks.now } in
-    judged w Drop a.claim.now a.out.now _ _ _ c.drop-number.ensures (one w a.claim.now a.out.now c.drop-number.ensures)
+    judged w Drop a.claim.now a.out.now _ _ _ c.drop-judged.ensures (one w a.claim.now a.out.now c.saturating_sub-last.ensures c.drop-judged.ensures)
 
 pub returns : goal.returns
 unfolding save_of refusals_of
 returns c =
     let a = c.args in
     let w : World = record { code = a.code; n = a.n; sheet = a.sheet.now; marks = a.marks.now } in
-    saved w Drop a.claim.now a.out.now _ _ _ c.drop-number.ensures (one w a.claim.now a.out.now c.drop-number.ensures) c.save.ensures
+    saved w Drop a.claim.now a.out.now _ _ _ c.drop-judged.ensures (one w a.claim.now a.out.now c.saturating_sub-last.ensures c.drop-judged.ensures) c.save.ensures
