@@ -4,55 +4,36 @@
 ghost use Rattle.std.specs.Prelude.{◌≡◌, [], ◌∷◌, ◌+◌, ◌*◌, ◌≤◌, length};
 ghost use Rattle.definition.specs.Buffer.{Every};
 ghost use Rattle.definition.specs.Refusal.{first_of};
+ghost use Rattle.refusals.specs.Number.{number_of};
 ghost use Rattle.sheet_definition.specs.Sheet.{record_bytes};
 ghost use Rattle.sheet_definition.specs.Refusals.{set_refusal, places_refusal, batch_refusals};
 ghost use Rattle.sheet_definition.specs.SheetCalls.{written_at, batch_outcome};
 
-use refusals::DONE;
+use refusals::{DONE, Refusal};
 use sheet_definition::{Answer, RECORD};
 
 // The most changes of one save.
 const MOST_CHANGES: usize = 64;
 
 // 14: whether there are at most 64 places, and each is above the one before it.
-fn rise(places: &[usize]) -> u32
-    ensures { result ≡ first_of (set_refusal places.now ∷ []) }
+fn rise(places: &[usize]) -> Result<(), Refusal>
+    ensures { number_of result ≡ first_of (set_refusal places.now ∷ []) }
 {
-    if MOST_CHANGES < places.len() {
-        return refusals::SET;
-    }
-    let mut t = places;
-    while 1 < t.len() {
-        if t[1] <= t[0] {
-            return refusals::SET;
-        }
-        t = &t[1..];
-    }
-    DONE
+    Refusal::Set.when(MOST_CHANGES < places.len() || !places.is_sorted_by(|a, b| a < b))
 }
 
 // 7: whether n records have each of the places.
-fn have(n: usize, places: &[usize]) -> u32
-    ensures { result ≡ first_of (places_refusal n places.now ∷ []) }
+fn have(n: usize, places: &[usize]) -> Result<(), Refusal>
+    ensures { number_of result ≡ first_of (places_refusal n places.now ∷ []) }
 {
-    let mut t = places;
-    while 0 < t.len() {
-        if n <= t[0] {
-            return refusals::PLACE;
-        }
-        t = &t[1..];
-    }
-    DONE
+    Refusal::Place.when(places.iter().any(|p| n <= *p))
 }
 
 // 14, then 7: places that are too many or don't rise aren't looked through again.
-fn own(n: usize, places: &[usize]) -> u32
-    ensures { result ≡ first_of (set_refusal places.now ∷ places_refusal n places.now ∷ []) }
+fn own(n: usize, places: &[usize]) -> Result<(), Refusal>
+    ensures { number_of result ≡ first_of (set_refusal places.now ∷ places_refusal n places.now ∷ []) }
 {
-    let set = rise(places);
-    if set != DONE {
-        return set;
-    }
+    rise(places)?;
     have(n, places)
 }
 
@@ -69,7 +50,13 @@ fn judge(
 ) -> u32
     ensures { result ≡ first_of (batch_refusals (record { code = code; n = n; sheet_length = sheet; marks_length = marks; out_length = out }) places.now «records» claim) }
 {
-    let sized = sheet_judge::sized(own(n, places), code, places.len(), records, claim);
+    let sized = sheet_judge::sized(
+        refusals::number_of(own(n, places)),
+        code,
+        places.len(),
+        records,
+        claim,
+    );
     refusals::first(sheet_judge::build(code, sheet, n, marks, out), sized)
 }
 
@@ -78,12 +65,8 @@ fn put(sheet: &mut [u8], places: &[usize], records: &[u8])
     requires { (Every (λ p. record_bytes * (p + 1) ≤ length sheet.old) places.now) × (length «records».now ≡ record_bytes * length places.now) }
     ensures { sheet.new ≡ written_at places.now «records».now sheet.old }
 {
-    let mut t = places;
-    let mut x = records;
-    while RECORD <= x.len() {
-        octets::put_bytes(sheet, RECORD * t[0], &x[0..RECORD]);
-        t = &t[1..];
-        x = &x[RECORD..];
+    for (place, record) in places.iter().zip(records.chunks_exact(RECORD)) {
+        octets::put_bytes(sheet, RECORD * *place, record);
     }
 }
 

@@ -83,7 +83,7 @@ work_on-rounds-requires c =
       f.count,
       omega (arith, f.sheet-room, c.put.auto.sheet),
       omega (arith, f.marks-room, ap length c.admit-begun.ensures.marks_unchanged),
-      omega (arith, (first_of_lem (λ i. i < a.n) a.places.now (omega arith) (all g).below).0),
+      omega (arith, first_of_lem (λ i. i < a.n) a.places.now (omega arith) (all g).below),
       omega (arith, g.checked_so_far, few-rounds (lent a.code a.sheet.now a.n a.marks.now) f.sheet-room),
       f.out-room,
     )

@@ -3,14 +3,13 @@
 use mathlib.Core.Path.{sym, ◌∙◌}
 use mathlib.Core.List.{[], ◌∷◌}
 use native.Mathlib.Omega.{arith}
+use Rattle.refusals.proofs.Judged.{refused, passed}
 use Rattle.sheet_definition.specs.Refusals.{set_refusal}
-use Rattle.definition.proofs.Refusals.{front-given, rest-given}
 use Rattle.sheet_batch.proofs.own.Goals as goal
 
-pub returns-then-set-ne-DONE : goal.returns-then-set-ne-DONE
-returns-then-set-ne-DONE c = front-given (_ ∷ []) (_ ∷ []) c.rise-set.ensures c.if-set-ne-DONE.true
+pub returns-in_err-rise : goal.returns-in_err-rise
+returns-in_err-rise c = refused _ _ (_ ∷ []) (_ ∷ []) c.from_residual.ensures.1 c.in_err-rise.ensures
 
 pub returns : goal.returns
 unfolding set_refusal
-returns c =
-    c.have.ensures ∙ sym (rest-given (_ ∷ []) (_ ∷ []) (omega arith) c.rise-set.ensures c.if-set-ne-DONE.false)
+returns c = c.have.ensures ∙ sym (passed (_ ∷ []) (_ ∷ []) (omega arith) c.in_ok-rise.ensures)
