@@ -6,7 +6,7 @@ use mathlib.Core.List.{List, [], ◌∷◌, ◌++◌, append-nil}
 use Prim.Native.Nat.{ℕ, suc, ◌+◌, ◌-◌, ◌*◌, ◌<◌, ◌≤◌}
 use native.Mathlib.Nat.{zero-add}
 use native.Mathlib.Omega.{arith}
-use lib.ListN.{length, get_or, take, drop, set, length-append, drop_of_length-le}
+use lib.ListN.{length, get_or, take, drop, set, length-append}
 use lib.Seq.{drop-cons, set-append_seam, append_snoc}
 use Rattle.definition.specs.Buffer.{overwrite_at, overwrite, joined}
 use Rattle.definition.specs.Refusal.{pick}
@@ -19,11 +19,6 @@ use Rattle.sheet_definition.proofs.Struck.{fewer, every_standing, standing_one, 
 -- a part of k bytes from byte i on has k
 pub part_size : (i k : ℕ) → i + k - i ≡ k
 part_size i k = omega arith
-
--- a buffer written whole
-pub all_written : (p l : List ℕ) → length l ≡ length p → overwrite p l ≡ p
-unfolding overwrite_at
-all_written p l e = rw (zero-add (length p), drop_of_length-le l {i = length p} (omega arith)) (append-nil p)
 
 -- after the first i records: so many stand, and they are in front, with their old places
 pub record Gathered (sheet₀ places₀ : List ℕ) (i : ℕ) (sheet places : List ℕ) (count : ℕ) : Type 0 where
@@ -53,7 +48,7 @@ module _ (sheet₀ places₀ : List ℕ) (i : ℕ) (sheet places : List ℕ) (co
   abbrev x : List ℕ
   x = take record_bytes (drop (record_bytes * i) sheet₀)
 
-  pub few : count ≤ i
+  few : count ≤ i
   few = omega (arith, g.counted, fewer rs, length_cut i sheet₀)
 
   long : length (joined (standing rs)) ≡ record_bytes * count
@@ -62,11 +57,12 @@ module _ (sheet₀ places₀ : List ℕ) (i : ℕ) (sheet places : List ℕ) (co
   listed : length (old_places 0 rs) ≡ count
   listed = one_each 0 rs ∙ sym g.counted
 
-  pub sheet-size : length sheet ≡ length sheet₀
+  sheet-size : length sheet ≡ length sheet₀
   sheet-size = ap length g.sheet_is ∙ length-overwrite_at 0 (joined (standing rs)) sheet₀ (omega (arith, long, few))
 
-  pub places-size : length places ≡ length places₀
-  places-size = ap length g.places_are ∙ length-overwrite_at 0 (old_places 0 rs) places₀ (omega (arith, listed, few))
+  -- so many have been moved as were seen at most, and the sheet keeps its length
+  pub stand : (count ≤ i) × (length sheet ≡ length sheet₀) × Gathered sheet₀ places₀ i sheet places count
+  stand = (few, sheet-size, g)
 
   -- the next record is still where it was
   pub next-record : take record_bytes (drop (record_bytes * i) sheet) ≡ x

@@ -2,30 +2,24 @@
 // under one claim, with one check and one work over the sheet.
 #![tactic(auto)]
 
-ghost use Rattle.std.specs.Prelude.{◌≡◌, ◌+◌, ◌-◌, ◌*◌, ◌≤◌, length, take, drop, replicate};
+ghost use Rattle.std.specs.Prelude.{◌≡◌, ◌+◌, ◌-◌, ◌*◌, ◌≤◌, length, take, drop, replicate, position};
 ghost use Rattle.definition.specs.Buffer.{overwrite_at, overwrite, joined};
 ghost use Rattle.sheet_definition.specs.Sheet.{most, record_bytes, cut};
-ghost use Rattle.sheet_definition.specs.Struck.{standing, old_places, first_struck};
+ghost use Rattle.sheet_definition.specs.Struck.{all_zero, standing, old_places};
 ghost use Rattle.sheet_definition.specs.SheetCalls.{close_up_outcome};
 
 use refusals::DONE;
 use sheet_definition::{Answer, RECORD};
 
-// The first struck place, or n where none is struck.
-fn first_struck(sheet: &[u8], n: usize) -> usize
+// The first struck place.
+fn first_struck(sheet: &[u8], n: usize) -> Option<usize>
     requires { record_bytes * n ≤ length sheet.now }
-    ensures { result ≡ first_struck (cut n sheet.now) }
+    ensures { result ≡ position all_zero (cut n sheet.now) }
 {
-    let mut i = 0;
-    while i < n {
-        let at = RECORD * i;
-        let end = at + RECORD;
-        if sheet_struck::zeros(&sheet[at..end]) {
-            return i;
-        }
-        i += 1;
-    }
-    n
+    sheet
+        .chunks_exact(RECORD)
+        .take(n)
+        .position(|record| sheet_struck::zeros(record))
 }
 
 // The record at a place, written at another.
@@ -33,11 +27,7 @@ fn move_record(sheet: &mut [u8], from: usize, to: usize)
     requires { (record_bytes * (from + 1) ≤ length sheet.old) × (to ≤ from) }
     ensures { sheet.new ≡ overwrite_at (record_bytes * to) (take record_bytes (drop (record_bytes * from) sheet.old)) sheet.old }
 {
-    let at = RECORD * from;
-    let end = at + RECORD;
-    let mut record = [0u8; 40];
-    octets::put_bytes(&mut record, 0, &sheet[at..end]);
-    octets::put_bytes(sheet, RECORD * to, &record);
+    sheet.copy_within(RECORD * from..RECORD * (from + 1), RECORD * to);
 }
 
 // The records that stand moved together to the front, with their old places; and how many they are.
@@ -48,16 +38,12 @@ fn gather(sheet: &mut [u8], n: usize, places: &mut [u16]) -> usize
     ensures places_after { places.new ≡ overwrite (old_places 0 (cut n sheet.old)) places.old }
 {
     let mut count = 0;
-    let mut i = 0;
-    while i < n {
-        let at = RECORD * i;
-        let past = at + RECORD;
-        if !sheet_struck::zeros(&sheet[at..past]) {
+    for i in 0..n {
+        if !sheet_struck::zeros(&sheet[RECORD * i..RECORD * i + RECORD]) {
             move_record(sheet, i, count);
             places[count] = i as u16;
             count += 1;
         }
-        i += 1;
     }
     count
 }
@@ -67,11 +53,7 @@ fn zero(sheet: &mut [u8], from: usize, to: usize)
     requires { (from ≤ to) × (record_bytes * to ≤ length sheet.old) }
     ensures { sheet.new ≡ overwrite_at (record_bytes * from) (replicate (record_bytes * (to - from)) 0) sheet.old }
 {
-    let mut i = from;
-    while i < to {
-        octets::put_bytes(sheet, RECORD * i, &[0u8; 40]);
-        i += 1;
-    }
+    sheet[RECORD * from..RECORD * to].fill(0);
 }
 
 // Struck records removed, where the claim is the digest of the sheet held.
@@ -103,7 +85,7 @@ pub fn close_up(
             rounds: begun.rounds,
         };
     }
-    let first = first_struck(sheet, n);
+    let first = first_struck(sheet, n).unwrap_or(n);
     let count = gather(sheet, n, places);
     zero(sheet, count, n);
     sheet_marks::clear(marks, n, count);

@@ -1,6 +1,6 @@
 -- `sheet_close_up::close_up` meets its contract: turned away, or put together from the records gathered, what is zeroed, and the work.
 -- Assumes nothing.
-use mathlib.Core.Path.{◌≡◌, refl, ap, ◌∙◌}
+use mathlib.Core.Path.{◌≡◌, refl, sym, ap, ◌∙◌}
 use mathlib.Core.List.{List}
 use Prim.Native.Nat.{ℕ, ◌≤◌}
 use native.Mathlib.Omega.{arith}
@@ -8,7 +8,7 @@ use lib.ListN.{length}
 use Rattle.definition.specs.Refusal.{PLACES, first_of}
 use Rattle.definition.proofs.Refusals.{fails}
 use Rattle.sheet_definition.specs.Sheet.{World, cut, q}
-use Rattle.sheet_definition.specs.Struck.{standing}
+use Rattle.sheet_definition.specs.Struck.{all_zero, standing, first_struck}
 use Rattle.sheet_definition.specs.Refusals.{lengths_of, close_up_refusals}
 use Rattle.sheet_definition.specs.SheetCalls.{Call, lent, refusals_of, save_of, call, closing_up}
 use Rattle.sheet_definition.proofs.Joined.{length_cut}
@@ -20,6 +20,10 @@ use Rattle.sheet_marks.proofs.Total.{cleared-past}
 use Rattle.sheet_work.specs.declared.Admitted.{Admitted}
 use Rattle.sheet_work.specs.Admission.{admission}
 use Rattle.sheet_work.proofs.Admission.{few-rounds, turned_away_lem, Onward, asked_of, onward}
+use Rattle.std.specs.Prelude.{Option}
+use Rattle.std.specs.List.{position}
+use Rattle.std.specs.Option.{unwrap_or}
+use Rattle.sheet_close_up.proofs.Walked.{first_told}
 use Rattle.sheet_close_up.proofs.Together.{list-stays, together}
 use Rattle.sheet_close_up.proofs.close_up.Goals as goal
 
@@ -46,6 +50,10 @@ module _ (w : World) (places claim out : List ℕ) {number : ℕ} (e : number �
 fewer_left : (n : ℕ) (sheet : List ℕ) {count : ℕ} → count ≡ length (standing (cut n sheet)) → count ≤ n
 fewer_left n sheet e = omega (arith, e, fewer (cut n sheet), length_cut n sheet)
 
+-- the first struck place, or the place past the last
+told : (n : ℕ) (sheet : List ℕ) {first : ℕ} {o : Option ℕ} → o ≡ position all_zero (cut n sheet) → first ≡ unwrap_or o n → first ≡ first_struck (cut n sheet)
+told n sheet p f = f ∙ rw p (first_told (cut n sheet) n (sym (length_cut n sheet)))
+
 pub admit-begun-requires : goal.admit-begun-requires
 admit-begun-requires c = asked_of _ _ (judged _ _ _ _ c.close_up-number.ensures)
 
@@ -68,7 +76,7 @@ work_on-rounds-requires c =
       omega (arith, l, f.count),
       omega (arith, l, f.sheet-room, c.zero.auto.sheet, c.gather-count.auto.sheet),
       omega (arith, l, f.marks-room, ap length c.admit-begun.ensures.marks_unchanged, c.clear.auto.marks),
-      omega (arith, c.first_struck-first.ensures, c.gather-count.ensures.value, first_stands (cut a.n a.sheet.now)),
+      omega (arith, (told _ _ c.first_struck.ensures c.unwrap_or-first.ensures), c.gather-count.ensures.value, first_stands (cut a.n a.sheet.now)),
       omega (arith, g.checked_so_far, few-rounds (lent a.code a.sheet.now a.n a.marks.now) f.sheet-room),
       f.out-room,
     )
@@ -80,13 +88,13 @@ returns c =
     let g = goes _ _ _ _ c.close_up-number.ensures c.admit-begun.ensures.value c.if-begun-ne-DONE.false in
     let o = c.work_on-rounds.ensures in
     let n = c.gather-count.ensures in
-    together _ _ _ _ _ _ _ _ _ _ _ _ _ _ g.checked_so_far c.first_struck-first.ensures
+    together _ _ _ _ _ _ _ _ _ _ _ _ _ _ g.checked_so_far (told _ _ c.first_struck.ensures c.unwrap_or-first.ensures)
     n.value n.sheet_after n.places_after c.zero.ensures
     (c.clear.ensures ∙ ap (cleared a.n c.gather-count.result) c.admit-begun.ensures.marks_unchanged ∙ cleared-past a.n c.gather-count.result a.marks.now (fewer_left _ _ n.value) g.room.marks-room)
     o.value o.marks_after o.out_after g.outcome
 
-pub first_struck-first-requires : goal.first_struck-first-requires
-first_struck-first-requires c =
+pub first_struck-requires : goal.first_struck-requires
+first_struck-requires c =
     (goes _ _ _ _ c.close_up-number.ensures c.admit-begun.ensures.value c.if-begun-ne-DONE.false).room.sheet-room
 
 pub gather-count-requires : goal.gather-count-requires

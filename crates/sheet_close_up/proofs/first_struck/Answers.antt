@@ -1,64 +1,21 @@
--- `sheet_close_up::first_struck` meets its contract. The loop's invariant: none of the first i records is struck.
+-- `sheet_close_up::first_struck` meets its contract: the walk looks for a record of zeros.
 -- Assumes nothing.
-use mathlib.Core.Path.{◌≡◌, ◌∙◌}
-use Prim.Native.Nat.{suc, ◌+◌, ◌-◌, ◌*◌}
-use native.Mathlib.Nat.{zero-add}
-use native.Mathlib.Numerals.{add-one}
+use mathlib.Core.Path.{ap, ◌∙◌}
 use native.Mathlib.Omega.{arith}
-use lib.ListN.{drop}
-use Rattle.definition.specs.Refusal.{pick}
-use Rattle.sheet_definition.specs.Sheet.{record_bytes, cut}
-use Rattle.sheet_definition.specs.Struck.{first_struck}
-use Rattle.sheet_definition.proofs.Joined.{cut-from}
+use Rattle.std.proofs.Common.{rules, tests}
+use Rattle.std.specs.List.{position}
+use Rattle.std.specs.Slice.Iter.{chunks_exact_rest, chunks_exact_size}
+use Rattle.std.proofs.lemmas.Iterator.{YieldsList-from_take}
+use Rattle.std.proofs.lemmas.Iterator.Search.{position_from_yields_List}
+use Rattle.sheet_definition.specs.Struck.{all_zero}
+use Rattle.sheet_close_up.proofs.Walked.{parts, take_cut}
 use Rattle.sheet_close_up.proofs.first_struck.Goals as goal
 
-pub loop-i-init : goal.loop-i-init
-loop-i-init c =
-    let n = c.args.n in
-    let e : n - 0 ≡ n = omega arith in
-    (omega arith, rw (zero-add, e))
-
--- what is left from the place on begins with its record
-step : (c : goal.Then-zeros) →
-    let l = c.loop-i in
-    let a = c.args in
-    first_struck (cut a.n a.sheet.now)
-    ≡ l.i + pick c.zeros.result 0 (suc (first_struck (cut (a.n - suc l.i) (drop (record_bytes * suc l.i) a.sheet.now))))
-unfolding first_struck
-step c =
-    let l = c.loop-i in
-    let a = c.args in
-    let e : record_bytes * l.i + record_bytes - record_bytes * l.i ≡ record_bytes = omega arith in
-    l.invariant.1 ∙ rw (cut-from a.n l.i a.sheet.now (omega arith), c.zeros.ensures, e)
-
--- what is left from the place on begins with its record
-step-2 : (c : goal.Else-zeros) →
-    let l = c.loop-i in
-    let a = c.args in
-    first_struck (cut a.n a.sheet.now)
-    ≡ l.i + pick c.zeros.result 0 (suc (first_struck (cut (a.n - suc l.i) (drop (record_bytes * suc l.i) a.sheet.now))))
-unfolding first_struck
-step-2 c =
-    let l = c.loop-i in
-    let a = c.args in
-    let e : record_bytes * l.i + record_bytes - record_bytes * l.i ≡ record_bytes = omega arith in
-    l.invariant.1 ∙ rw (cut-from a.n l.i a.sheet.now (omega arith), c.zeros.ensures, e)
-
-pub returns-then-zeros : goal.returns-then-zeros
-unfolding pick
-returns-then-zeros c = omega (arith, rw c.if-zeros.true at (step c))
-
-pub loop-i-preserved : goal.loop-i-preserved
-unfolding pick
-loop-i-preserved c =
-    let i = c.loop-i.i in
-    (omega arith, rw (add-one i) (omega (arith, rw c.if-zeros.false at (step-2 c))))
-
 pub returns : goal.returns
-unfolding first_struck cut
 returns c =
-    let l = c.loop-i in
     let a = c.args in
-    let e : l.i ≡ a.n = omega arith in
-    let z : a.n - a.n ≡ 0 = omega arith in
-    omega (arith, rw (e, z) at l.invariant.1)
+    let t = c.take.ensures.source in
+    position_from_yields_List all_zero _ _ _ c.position.ensures.ran
+    (YieldsList-from_take a.n (parts a.sheet.now (ap chunks_exact_rest t ∙ c.chunks_exact.ensures.rest) (ap chunks_exact_size t ∙ c.chunks_exact.ensures.size)) c.take.ensures.count)
+    (λ x b q k. search (rules, tests))
+    ∙ ap (position all_zero) (take_cut a.n _ a.sheet.now (omega arith))
