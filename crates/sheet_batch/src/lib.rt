@@ -8,9 +8,11 @@ ghost use Rattle.refusals.specs.Number.{number_of};
 ghost use Rattle.sheet_definition.specs.Sheet.{record_bytes};
 ghost use Rattle.sheet_definition.specs.Refusals.{set_refusal, places_refusal, batch_refusals};
 ghost use Rattle.sheet_definition.specs.SheetCalls.{written_at, batch_outcome};
+ghost use Rattle.sheet_work.specs.Answered.{answer_of};
 
-use refusals::{DONE, Refusal};
-use sheet_definition::{Answer, RECORD};
+use refusals::Refusal;
+use sheet_definition::RECORD;
+use sheet_work::{Saved, Turned};
 
 // The most changes of one save.
 const MOST_CHANGES: usize = 64;
@@ -29,15 +31,7 @@ fn have(n: usize, places: &[usize]) -> Result<(), Refusal>
     Refusal::Place.when(places.iter().any(|p| n <= *p))
 }
 
-// 14, then 7: places that are too many or don't rise aren't looked through again.
-fn own(n: usize, places: &[usize]) -> Result<(), Refusal>
-    ensures { number_of result ≡ first_of (set_refusal places.now ∷ places_refusal n places.now ∷ []) }
-{
-    rise(places)?;
-    have(n, places)
-}
-
-// The first refusal, whether a claim is stale left aside.
+// The first refusal, whether a claim is stale left aside. Places that are too many or don't rise aren't looked through again.
 fn judge(
     code: usize,
     sheet: usize,
@@ -47,17 +41,13 @@ fn judge(
     records: usize,
     claim: usize,
     out: usize,
-) -> u32
-    ensures { result ≡ first_of (batch_refusals (record { code = code; n = n; sheet_length = sheet; marks_length = marks; out_length = out }) places.now «records» claim) }
+) -> Result<(), Refusal>
+    ensures { number_of result ≡ first_of (batch_refusals (record { code = code; n = n; sheet_length = sheet; marks_length = marks; out_length = out }) places.now «records» claim) }
 {
-    let sized = sheet_judge::sized(
-        refusals::number_of(own(n, places)),
-        code,
-        places.len(),
-        records,
-        claim,
-    );
-    refusals::first(sheet_judge::build(code, sheet, n, marks, out), sized)
+    sheet_judge::build(code, sheet, n, marks, out)?;
+    rise(places)?;
+    have(n, places)?;
+    sheet_judge::sized(code, places.len(), records, claim)
 }
 
 // The new records, each written at its place.
@@ -80,10 +70,10 @@ pub fn batch(
     records: &[u8],
     claim: &[u8],
     out: &mut [u8],
-) -> Answer
-    ensures { record { answer = result; sheet = sheet.new; marks = marks.new; out = out.new } ≡ batch_outcome code sheet.old n marks.old places.now «records».now claim.now out.old }
+) -> Result<Saved, Turned>
+    ensures { record { answer = answer_of n result; sheet = sheet.new; marks = marks.new; out = out.new } ≡ batch_outcome code sheet.old n marks.old places.now «records».now claim.now out.old }
 {
-    let number = judge(
+    let judged = judge(
         code,
         sheet.len(),
         n,
@@ -93,29 +83,16 @@ pub fn batch(
         claim.len(),
         out.len(),
     );
-    let begun = sheet_work::admit(number, code, sheet, n, marks, claim);
-    if begun.number != DONE {
-        return Answer {
-            number: begun.number as u64,
-            count: n as u64,
-            rounds: begun.rounds,
-        };
-    }
-    if places.len() == 0 {
+    let before = sheet_work::admit(judged, code, sheet, n, marks, claim)?;
+    let Some(first) = places.first() else {
         // the claim is the digest held, as the check has found
         octets::put_bytes(out, 0, claim);
-        return Answer {
-            number: DONE as u64,
-            count: n as u64,
-            rounds: begun.rounds,
-        };
-    }
+        return Ok(Saved {
+            count: n,
+            rounds: before,
+        });
+    };
     put(sheet, places, records);
-    let first = places[0] / 4;
-    let rounds = sheet_work::work_on(code, sheet, n, marks, first, begun.rounds, out);
-    Answer {
-        number: DONE as u64,
-        count: n as u64,
-        rounds: rounds,
-    }
+    let rounds = sheet_work::work_on(code, sheet, n, marks, *first / 4, before, out);
+    Ok(Saved { count: n, rounds })
 }

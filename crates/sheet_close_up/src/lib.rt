@@ -7,9 +7,10 @@ ghost use Rattle.definition.specs.Buffer.{overwrite_at, overwrite, joined};
 ghost use Rattle.sheet_definition.specs.Sheet.{most, record_bytes, cut};
 ghost use Rattle.sheet_definition.specs.Struck.{all_zero, standing, old_places};
 ghost use Rattle.sheet_definition.specs.SheetCalls.{close_up_outcome};
+ghost use Rattle.sheet_work.specs.Answered.{answer_of};
 
-use refusals::DONE;
-use sheet_definition::{Answer, RECORD};
+use sheet_definition::RECORD;
+use sheet_work::{Saved, Turned};
 
 // The first struck place.
 fn first_struck(sheet: &[u8], n: usize) -> Option<usize>
@@ -65,10 +66,10 @@ pub fn close_up(
     claim: &[u8],
     places: &mut [u16],
     out: &mut [u8],
-) -> Answer
-    ensures { record { answer = result; sheet = sheet.new; marks = marks.new; places = places.new; out = out.new } ≡ close_up_outcome code sheet.old n marks.old claim.now places.old out.old }
+) -> Result<Saved, Turned>
+    ensures { record { answer = answer_of n result; sheet = sheet.new; marks = marks.new; places = places.new; out = out.new } ≡ close_up_outcome code sheet.old n marks.old claim.now places.old out.old }
 {
-    let number = sheet_judge::close_up(
+    let judged = sheet_judge::close_up(
         code,
         sheet.len(),
         n,
@@ -77,22 +78,11 @@ pub fn close_up(
         claim.len(),
         out.len(),
     );
-    let begun = sheet_work::admit(number, code, sheet, n, marks, claim);
-    if begun.number != DONE {
-        return Answer {
-            number: begun.number as u64,
-            count: n as u64,
-            rounds: begun.rounds,
-        };
-    }
+    let before = sheet_work::admit(judged, code, sheet, n, marks, claim)?;
     let first = first_struck(sheet, n).unwrap_or(n);
     let count = gather(sheet, n, places);
     zero(sheet, count, n);
     sheet_marks::clear(marks, n, count);
-    let rounds = sheet_work::work_on(code, sheet, count, marks, first / 4, begun.rounds, out);
-    Answer {
-        number: DONE as u64,
-        count: count as u64,
-        rounds: rounds,
-    }
+    let rounds = sheet_work::work_on(code, sheet, count, marks, first / 4, before, out);
+    Ok(Saved { count, rounds })
 }
