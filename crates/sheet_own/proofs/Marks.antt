@@ -56,6 +56,6 @@ module _ (code : ℕ) (held own : List ℕ) (last g pairs : ℕ) (h : g < last) 
       let t : same (used code held (g + 1)) (used code own (g + 1)) ≡ false = not-true _ e in
       rw (left, t)
 
-pub ends : (code : ℕ) (held own : List ℕ) (last g pairs : ℕ) → last ≤ g → before pairs (compared code held own (last - g) g) ≡ record { found = Same; pairs = pairs }
+pub ends : (code : ℕ) (held own : List ℕ) (last : ℕ) → before last (compared code held own (last - last) last) ≡ record { found = Same; pairs = last }
 unfolding compared
-ends code held own last g pairs h = let e : last - g ≡ 0 = omega arith in rw (e, add-zero pairs)
+ends code held own last = let e : last - last ≡ 0 = omega arith in rw (e, add-zero last)

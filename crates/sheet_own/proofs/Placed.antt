@@ -2,13 +2,22 @@
 -- Assumes nothing.
 use mathlib.Core.Path.{◌≡◌}
 use mathlib.Core.List.{List}
-use Prim.Native.Nat.{ℕ}
-use borrow.Author.Tests.{eq-eqb, ne_eqb}
+use Prim.Native.Nat.{ℕ, suc, ◌/◌, min}
+use native.Mathlib.Decide.{dec_le}
+use native.Mathlib.Omega.{arith}
+use borrow.Author.Tests.{lt-ltb, le-ltb, eq-eqb, ne_eqb}
 use Rattle.definition.specs.Refusal.{STALE, pick}
+use Rattle.sheet_definition.specs.Sheet.{q}
 use Rattle.sheet_definition.specs.declared.Answer.{Answer}
 use Rattle.sheet_definition.specs.declared.Where.{Where}
 use Rattle.sheet_definition.specs.Own.{shared, compared, nowhere, stale_as}
 use Rattle.sheet_own.specs.Located.{located}
+
+-- the marks after mark 0 that both sheets have
+pub shared_is : (n own : ℕ) → shared n own ≡ min (n / 4) (own / 4)
+unfolding shared q pick
+shared_is n own =
+    elim (dec_le (suc (n / 4)) (own / 4)) [ yes h ↦ rw (lt-ltb (n / 4) (own / 4) h) (omega arith) | no h ↦ rw (le-ltb (n / 4) (own / 4) (omega arith)) (omega arith) ]
 
 module _ (code n : ℕ) (marks : List ℕ) (own : ℕ) (own_marks : List ℕ) (a : Answer) where
   pub as_it_is : (a.number ≡ STALE → ⊥)

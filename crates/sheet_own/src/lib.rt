@@ -2,19 +2,46 @@
 // marks held are compared with the planner's own.
 #![tactic(auto)]
 
-ghost use Rattle.std.specs.Prelude.{◌≡◌, not, [], ◌∷◌, ◌+◌, ◌*◌, ◌≤◌, length};
+ghost use Rattle.std.specs.Prelude.{◌≡◌, not, [], ◌∷◌, ◌+◌, ◌*◌, ◌≤◌, length, IfErr};
 ghost use Rattle.definition.specs.Buffer.{same};
-ghost use Rattle.definition.specs.Refusal.{first_of, when_done};
+ghost use Rattle.definition.specs.Refusal.{STALE, first_of};
+ghost use Rattle.refusals.specs.Number.{number, number_of};
 ghost use Rattle.sheet_definition.specs.Sheet.{mark_words, q};
 ghost use Rattle.sheet_definition.specs.Marks.{mark_at, state_from, mark_of};
-ghost use Rattle.sheet_definition.specs.Own.{own_refusal, shared, compared, stale_as, located_answer};
+ghost use Rattle.sheet_definition.specs.Own.{own_refusal, compared, nowhere, stale_as, located_answer};
 ghost use Rattle.sheet_definition.specs.SheetCalls.{own_outcome};
 ghost use Rattle.sheet_definition.specs.SheetCalls.Kind.{Change, Append, Drop};
-ghost use Rattle.sheet_own.specs.Located.{turned_away, located};
+ghost use Rattle.sheet_work.specs.Answered.{answer_of};
+ghost use Rattle.sheet_own.specs.Located.{located_of, located};
 
 use definition::Width;
-use refusals::DONE;
-use sheet_definition::{Answer, Found, Located, LocatedAnswer, MOST, Where};
+use refusals::Refusal;
+use sheet_definition::{Found, LocatedAnswer, MOST, Where};
+use sheet_work::{Saved, Turned};
+
+// Why a save with own marks is turned away, the rounds that its check took, and where the marks held are others than the planner's.
+#[derive(Clone, Copy)]
+pub struct Strayed {
+    pub refusal: Refusal,
+    pub rounds: u64,
+    pub place: Where,
+}
+
+// Where the arguments are refused nothing is checked and nothing compared.
+impl From<Refusal> for Strayed {
+    ghost from_gives = { λ r s. s ≡ record { refusal = r; rounds = 0; place = nowhere } };
+
+    fn from(refusal: Refusal) -> Strayed {
+        Strayed {
+            refusal: refusal,
+            rounds: 0,
+            place: Where {
+                found: Found::Same,
+                pairs: 0,
+            },
+        }
+    }
+}
 
 // Whether mark m of two sheets holds another state. Only the blocks that the code uses are read.
 fn other(w: Width, held: &[u32], own: &[u32], m: usize) -> bool
@@ -27,36 +54,15 @@ fn other(w: Width, held: &[u32], own: &[u32], m: usize) -> bool
 }
 
 // 15: over 1,024 records, marks too short for them, or mark 0 isn't the starting variables.
-fn judge(code: usize, n: usize, marks: &[u32]) -> u32
-    ensures { result ≡ first_of (own_refusal code n marks.now ∷ []) }
+fn has_own(code: usize, n: usize, marks: &[u32]) -> Result<(), Refusal>
+    ensures { number_of result ≡ first_of (own_refusal code n marks.now ∷ []) }
 {
-    if MOST < n {
-        return refusals::OWN;
-    }
-    if sheet_judge::marks_room(n, marks.len()) != DONE {
-        return refusals::OWN;
-    }
+    Refusal::Own.when(MOST < n)?;
+    Refusal::Own.when(sheet_judge::has_marks(n, marks.len()).is_err())?;
     let w = codes::width(code);
     let a = blocks::words(sheet_marks::read(w, marks, 0));
     let b = blocks::words(rounds::start(w));
-    refusals::when(sheet_marks::differs(&a, &b), refusals::OWN)
-}
-
-// The plain call's number, and after 10 also 15.
-fn after_ten(ten: u32, code: usize, n: usize, marks: &[u32]) -> u32
-    ensures { result ≡ when_done ten (first_of (own_refusal code n marks.now ∷ [])) ten }
-{
-    refusals::first(ten, judge(code, n, marks))
-}
-
-// The marks after mark 0 that both sheets have.
-fn both(n: usize, own: usize) -> usize
-    ensures { result ≡ shared n own }
-{
-    if n / 4 < own / 4 {
-        return n / 4;
-    }
-    own / 4
+    Refusal::Own.when(sheet_marks::differs(&a, &b))
 }
 
 // The first so many pairs of marks from mark 1 on, up to the first that differs.
@@ -65,72 +71,52 @@ fn compare(code: usize, held: &[u32], own: &[u32], last: usize) -> Where
     ensures { result ≡ compared code held.now own.now last 0 }
 {
     let used = codes::width(code);
-    let mut pairs = 0;
-    let mut g = 0;
-    while g < last {
-        pairs = pairs + 1;
+    for g in 0..last {
         if other(used, held, own, g + 1) {
             return Where {
                 found: Found::Group(g),
-                pairs: pairs,
+                pairs: g as u64 + 1,
             };
         }
-        g += 1;
     }
     Where {
         found: Found::Same,
-        pairs: pairs,
+        pairs: last as u64,
     }
 }
 
-// The number of a stale save: 11 where a group is named, 16 where all shared marks agree.
-fn stale(found: Found) -> u32
-    ensures { result ≡ stale_as found }
+// Why a stale save is turned away: 11 where a group is named, 16 where all shared marks agree.
+fn stale(found: Found) -> Refusal
+    ensures { number result ≡ stale_as found }
 {
     match found {
-        Found::Same => refusals::STALE_TAIL,
-        Found::Group(g) => refusals::STALE,
+        Found::Same => Refusal::StaleTail,
+        Found::Group(_) => Refusal::Stale,
     }
 }
 
-// The answer of a call that its arguments refuse.
-fn refused(number: u32, n: usize) -> Located
-    ensures { result ≡ turned_away number n }
+// What the plain call answers, and where it is stale, the place: the marks after mark 0 that both sheets have are compared.
+fn locate(
+    code: usize,
+    n: usize,
+    marks: &[u32],
+    owned: usize,
+    own: &[u32],
+    saved: Result<Saved, Turned>,
+) -> Result<Saved, Strayed>
+    requires { (mark_words * (q n + 1) ≤ length marks.now) × (mark_words * (q owned + 1) ≤ length own.now) × IfErr saved (λ t. number t.refusal ≡ STALE) }
+    ensures { located_of n result ≡ located code n marks.now owned own.now (answer_of n saved) }
 {
-    Located {
-        number: number as u64,
-        count: n as u64,
-        rounds: 0,
-        place: Where {
-            found: Found::Same,
-            pairs: 0,
-        },
-    }
-}
-
-// The plain call's answer, and where it is stale, the place.
-fn locate(code: usize, n: usize, marks: &[u32], owned: usize, own: &[u32], a: Answer) -> Located
-    requires { (mark_words * (q n + 1) ≤ length marks.now) × (mark_words * (q owned + 1) ≤ length own.now) }
-    ensures { result ≡ located code n marks.now owned own.now a }
-{
-    if a.number != refusals::STALE as u64 {
-        return Located {
-            number: a.number,
-            count: a.count,
-            rounds: a.rounds,
-            place: Where {
-                found: Found::Same,
-                pairs: 0,
-            },
-        };
-    }
-    let at = compare(code, marks, own, both(n, owned));
-    let found = at.found;
-    Located {
-        number: stale(found) as u64,
-        count: a.count,
-        rounds: a.rounds,
-        place: at,
+    match saved {
+        Ok(done) => Ok(done),
+        Err(turned) => {
+            let place = compare(code, marks, own, (n / 4).min(owned / 4));
+            Err(Strayed {
+                refusal: stale(place.found),
+                rounds: turned.rounds,
+                place: place,
+            })
+        }
     }
 }
 
@@ -146,10 +132,10 @@ pub fn change(
     owned: usize,
     own: &[u32],
     out: &mut [u8],
-) -> Located
-    ensures { record { answer = result; sheet = sheet.new; marks = marks.new; out = out.new } ≡ own_outcome (record { code = code; n = n; sheet = sheet.old; marks = marks.old }) (Change place «record».now) claim.now owned own.now out.old }
+) -> Result<Saved, Strayed>
+    ensures { record { answer = located_of n result; sheet = sheet.new; marks = marks.new; out = out.new } ≡ own_outcome (record { code = code; n = n; sheet = sheet.old; marks = marks.old }) (Change place «record».now) claim.now owned own.now out.old }
 {
-    let ten = sheet_judge::change(
+    sheet_judge::change(
         code,
         sheet.len(),
         n,
@@ -158,13 +144,10 @@ pub fn change(
         record.len(),
         claim.len(),
         out.len(),
-    );
-    let number = after_ten(ten, code, owned, own);
-    if number != DONE {
-        return refused(number, n);
-    }
-    let a = sheet::change(code, sheet, n, marks, place, record, claim, out);
-    locate(code, n, marks, owned, own, a)
+    )?;
+    has_own(code, owned, own)?;
+    let saved = sheet::change(code, sheet, n, marks, place, record, claim, out);
+    locate(code, n, marks, owned, own, saved)
 }
 
 // A record added at the end, by a planner who brings his own marks.
@@ -178,10 +161,10 @@ pub fn append(
     owned: usize,
     own: &[u32],
     out: &mut [u8],
-) -> Located
-    ensures { record { answer = result; sheet = sheet.new; marks = marks.new; out = out.new } ≡ own_outcome (record { code = code; n = n; sheet = sheet.old; marks = marks.old }) (Append «record».now) claim.now owned own.now out.old }
+) -> Result<Saved, Strayed>
+    ensures { record { answer = located_of n result; sheet = sheet.new; marks = marks.new; out = out.new } ≡ own_outcome (record { code = code; n = n; sheet = sheet.old; marks = marks.old }) (Append «record».now) claim.now owned own.now out.old }
 {
-    let ten = sheet_judge::append(
+    sheet_judge::append(
         code,
         sheet.len(),
         n,
@@ -189,13 +172,10 @@ pub fn append(
         record.len(),
         claim.len(),
         out.len(),
-    );
-    let number = after_ten(ten, code, owned, own);
-    if number != DONE {
-        return refused(number, n);
-    }
-    let a = sheet::append(code, sheet, n, marks, record, claim, out);
-    locate(code, n, marks, owned, own, a)
+    )?;
+    has_own(code, owned, own)?;
+    let saved = sheet::append(code, sheet, n, marks, record, claim, out);
+    locate(code, n, marks, owned, own, saved)
 }
 
 // The last record taken away, by a planner who brings his own marks.
@@ -208,40 +188,41 @@ pub fn drop(
     owned: usize,
     own: &[u32],
     out: &mut [u8],
-) -> Located
-    ensures { record { answer = result; sheet = sheet.new; marks = marks.new; out = out.new } ≡ own_outcome (record { code = code; n = n; sheet = sheet.old; marks = marks.old }) Drop claim.now owned own.now out.old }
+) -> Result<Saved, Strayed>
+    ensures { record { answer = located_of n result; sheet = sheet.new; marks = marks.new; out = out.new } ≡ own_outcome (record { code = code; n = n; sheet = sheet.old; marks = marks.old }) Drop claim.now owned own.now out.old }
 {
-    let ten = sheet_judge::drop(code, sheet.len(), n, marks.len(), claim.len(), out.len());
-    let number = after_ten(ten, code, owned, own);
-    if number != DONE {
-        return refused(number, n);
-    }
-    let a = sheet::drop(code, sheet, n, marks, claim, out);
-    locate(code, n, marks, owned, own, a)
+    sheet_judge::drop(code, sheet.len(), n, marks.len(), claim.len(), out.len())?;
+    has_own(code, owned, own)?;
+    let saved = sheet::drop(code, sheet, n, marks, claim, out);
+    locate(code, n, marks, owned, own, saved)
 }
 
-// The answer for C: which case was found, and the group, 0 where none is named.
-pub fn answer(a: Located) -> LocatedAnswer
-    ensures { result ≡ located_answer a }
+// The answer for C of a save of n records: which case was found, and the group, 0 where none is named.
+pub fn answer(n: usize, saved: Result<Saved, Strayed>) -> LocatedAnswer
+    ensures { result ≡ located_answer (located_of n saved) }
 {
-    let at = a.place;
-    let found = at.found;
-    match found {
-        Found::Same => LocatedAnswer {
-            number: a.number,
-            count: a.count,
-            rounds: a.rounds,
+    match saved {
+        Ok(done) => LocatedAnswer {
+            number: 0,
+            count: done.count as u64,
+            rounds: done.rounds,
             kind: 0,
             group: 0,
-            pairs: at.pairs,
+            pairs: 0,
         },
-        Found::Group(g) => LocatedAnswer {
-            number: a.number,
-            count: a.count,
-            rounds: a.rounds,
-            kind: 1,
-            group: g as u64,
-            pairs: at.pairs,
-        },
+        Err(strayed) => {
+            let (kind, group) = match strayed.place.found {
+                Found::Same => (0, 0),
+                Found::Group(g) => (1, g as u64),
+            };
+            LocatedAnswer {
+                number: u32::from(strayed.refusal) as u64,
+                count: n as u64,
+                rounds: strayed.rounds,
+                kind: kind,
+                group: group,
+                pairs: strayed.place.pairs,
+            }
+        }
     }
 }

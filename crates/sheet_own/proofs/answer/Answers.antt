@@ -1,19 +1,19 @@
 -- `sheet_own::answer` meets its contract, case by case.
 -- Assumes nothing.
 use mathlib.Core.Path.{sym, ap}
-use Rattle.sheet_definition.specs.declared.Found.{Found}
-use Rattle.sheet_definition.specs.declared.Located.{Located}
 use Rattle.sheet_definition.specs.Own.{kind_of, group_of, located_answer}
+use Rattle.sheet_own.specs.Located.{located_of}
 use Rattle.sheet_own.proofs.answer.Goals as goal
+use Rattle.sheet_own.proofs.answer.Goals.{in-Same, in-Group}
 
--- an answer by what it says was found
-abbrev by : Located → Found → Located
-by a f = record { number = a.number; count = a.count; rounds = a.rounds; place = record { found = f; pairs = a.place.pairs } }
-
-pub returns-in-Same : goal.returns-in-Same
+pub returns-in-Ok : goal.returns-in-Ok
 unfolding located_answer kind_of group_of
-returns-in-Same c = ap (λ f. located_answer (by c.args.a f)) (sym c.in-Same.is)
+returns-in-Ok c = ap (λ s. located_answer (located_of c.args.n s)) (sym c.in-Ok.is)
 
-pub returns-in-Group : goal.returns-in-Group
+pub returns-after-strayed : goal.returns-after-strayed
 unfolding located_answer kind_of group_of
-returns-in-Group c = ap (λ f. located_answer (by c.args.a f)) (sym c.in-Group.is)
+returns-after-strayed c =
+    elim c.match-strayed.branch [
+      | in-Same s ↦ rw (c.in-Err.is, s.kind-is, s.in-Same.is, c.from.ensures)
+      | in-Group s ↦ rw (c.in-Err.is, s.kind-is, s.in-Group.is, c.from.ensures)
+    ]

@@ -1,10 +1,12 @@
 -- `sheet_own::compare` meets its contract. The loop's invariant: what is left to compare, with the pairs before it, is the whole.
 -- Assumes nothing.
-use mathlib.Core.Path.{◌≡◌, refl, sym, ap, ◌∙◌}
-use mathlib.Core.Bool.{not}
-use Prim.Native.Nat.{◌+◌}
+use mathlib.Core.Path.{◌≡◌, sym, ◌∙◌}
+use mathlib.Core.Bool.{Bool, not}
+use mathlib.Core.List.{List}
+use Prim.Native.Nat.{ℕ, ◌+◌}
 use native.Mathlib.Omega.{arith}
 use Rattle.definition.specs.declared.Width.{Width}
+use Rattle.definition.specs.Width.{width_at}
 use Rattle.definition.specs.Buffer.{same}
 use Rattle.sheet_definition.specs.Marks.{mark_at, state_from, mark_of}
 use Rattle.sheet_definition.specs.Own.{used}
@@ -12,43 +14,30 @@ use Rattle.sheet_own.proofs.Marks.{begins, goes_on, stops, ends}
 use Rattle.sheet_own.proofs.compare.Goals as goal
 
 pub loop-g-init : goal.loop-g-init
-loop-g-init c = let a = c.args in (omega arith, refl, begins a.code a.held.now a.own.now a.last)
+loop-g-init c = let a = c.args in begins a.code a.held.now a.own.now a.last
 
 -- whether the next pair differs, by the code's blocks
-said : (o : goal.Then-other) → let a = o.args in
-    o.other.result ≡ not (same (used a.code a.held.now (o.loop-g.g + 1)) (used a.code a.own.now (o.loop-g.g + 1)))
+said : {b : Bool} {w : Width} (code g : ℕ) (held own : List ℕ)
+    → b ≡ not (same (mark_of (state_from w (mark_at held (g + 1)))) (mark_of (state_from w (mark_at own (g + 1))))) → w ≡ width_at code
+    → b ≡ not (same (used code held (g + 1)) (used code own (g + 1)))
 unfolding used
-said o =
-    let a = o.args in
-    o.other.ensures
-    ∙ ap (λ (w : Width). not (same (mark_of (state_from w (mark_at a.held.now (o.loop-g.g + 1)))) (mark_of (state_from w (mark_at a.own.now (o.loop-g.g + 1)))))) o.width-used.ensures
-
--- whether the next pair differs, by the code's blocks
-said-2 : (o : goal.Else-other) → let a = o.args in
-    o.other.result ≡ not (same (used a.code a.held.now (o.loop-g.g + 1)) (used a.code a.own.now (o.loop-g.g + 1)))
-unfolding used
-said-2 o =
-    let a = o.args in
-    o.other.ensures
-    ∙ ap (λ (w : Width). not (same (mark_of (state_from w (mark_at a.held.now (o.loop-g.g + 1)))) (mark_of (state_from w (mark_at a.own.now (o.loop-g.g + 1)))))) o.width-used.ensures
+said code g held own e f = rw (e, f)
 
 pub returns-then-other : goal.returns-then-other
 returns-then-other c =
     let a = c.args in
-    sym (stops a.code a.held.now a.own.now a.last c.loop-g.g c.loop-g.pairs (omega arith) (sym (said c) ∙ c.if-other.true)) ∙ c.loop-g.invariant.2
+    sym (stops a.code a.held.now a.own.now a.last c.loop-g.g c.loop-g.g (omega arith) (sym (said a.code c.loop-g.g a.held.now a.own.now c.other.ensures c.width-used.ensures) ∙ c.if-other.true)) ∙ c.loop-g.invariant
 
 pub loop-g-preserved : goal.loop-g-preserved
 loop-g-preserved c =
-    let a = c.args in (
-      omega arith,
-      omega arith,
-      sym (goes_on a.code a.held.now a.own.now a.last c.loop-g.g c.loop-g.pairs (omega arith) (sym (said-2 c) ∙ c.if-other.false)) ∙ c.loop-g.invariant.2,
-    )
+    let a = c.args in
+    sym (goes_on a.code a.held.now a.own.now a.last c.loop-g.g c.loop-g.g (omega arith) (sym (said a.code c.loop-g.g a.held.now a.own.now c.other.ensures c.width-used.ensures) ∙ c.if-other.false)) ∙ c.loop-g.invariant
 
 pub returns : goal.returns
 returns c =
     let a = c.args in
-    sym (ends a.code a.held.now a.own.now a.last c.loop-g.g c.loop-g.pairs (omega arith)) ∙ c.loop-g.invariant.2
+    let e : c.loop-g.g ≡ a.last = omega arith in
+    sym (ends a.code a.held.now a.own.now a.last) ∙ (rw e at c.loop-g.invariant)
 
 pub other-requires : goal.other-requires
 other-requires c =

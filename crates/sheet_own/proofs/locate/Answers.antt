@@ -1,26 +1,28 @@
 -- `sheet_own::locate` meets its contract: the answer as it is, or with the place.
 -- Assumes nothing.
-use mathlib.Core.Path.{ap, ◌∙◌}
+use mathlib.Core.Path.{sym, ap, ◌∙◌}
 use Prim.Native.Nat.{ℕ}
 use native.Mathlib.Omega.{arith}
+use Rattle.std.specs.Prelude.{Ok, Err}
+use Rattle.std.proofs.lemmas.Result.{IfErr-at_err}
+use Rattle.sheet_definition.specs.Sheet.{q}
 use Rattle.sheet_definition.specs.Own.{compared}
-use Rattle.sheet_definition.proofs.Owned.{shared-held}
-use Rattle.sheet_own.proofs.Placed.{as_it_is, with_place}
+use Rattle.sheet_work.specs.Answered.{answer_of}
+use Rattle.sheet_own.proofs.Placed.{shared_is, as_it_is, with_place}
 use Rattle.sheet_own.proofs.locate.Goals as goal
 
-pub returns-then-a : goal.returns-then-a
-returns-then-a c =
+pub returns-in-Ok : goal.returns-in-Ok
+returns-in-Ok c =
     let a = c.args in
-    as_it_is a.code a.n a.marks.now a.owned a.own.now a.a c.if-a.true
+    rw c.in-Ok.is (as_it_is a.code a.n a.marks.now a.owned a.own.now (answer_of a.n (Ok c.in-Ok.done)) (λ z. absurd (omega arith)))
 
-pub compare-at-requires : goal.compare-at-requires
-compare-at-requires c =
-    let a = c.args in
-    let b = shared-held a.n a.owned in
-    (omega (arith, c.requires.0, c.both.ensures, b.0), omega (arith, c.requires.1, c.both.ensures, b.1))
+pub compare-place-requires : goal.compare-place-requires
+unfolding q
+compare-place-requires c = (omega (arith, c.requires.0, c.min.ensures), omega (arith, c.requires.1, c.min.ensures))
 
-pub returns : goal.returns
-returns c =
+pub returns-in-Err : goal.returns-in-Err
+returns-in-Err c =
     let a = c.args in
-    with_place a.code a.n a.marks.now a.owned a.own.now a.a c.if-a.false
-    (c.compare-at.ensures ∙ ap (λ (m : ℕ). compared a.code a.marks.now a.own.now m 0) c.both.ensures) c.stale.ensures
+    rw c.in-Err.is
+    (with_place a.code a.n a.marks.now a.owned a.own.now (answer_of a.n (Err c.in-Err.turned)) (IfErr-at_err _ c.in-Err.is c.requires.2)
+    (c.compare-place.ensures ∙ ap (λ (m : ℕ). compared a.code a.marks.now a.own.now m 0) (c.min.ensures ∙ sym (shared_is a.n a.owned))) c.stale.ensures)
