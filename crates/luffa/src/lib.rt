@@ -161,7 +161,8 @@ pub fn luffa_sheet_build(
 ) -> Answer
     ensures { record { answer = result; sheet = sheet.now; marks = marks.new; out = out.new } ≡ build_outcome code sheet.now n marks.old out.old }
 {
-    sheet::build(code, sheet, n, marks, out)
+    let saved = sheet::build(code, sheet, n, marks, out);
+    sheet_work::answer(n, saved)
 }
 
 // A record replaced.
@@ -177,7 +178,8 @@ pub fn luffa_sheet_change(
 ) -> Answer
     ensures { record { answer = result; sheet = sheet.new; marks = marks.new; out = out.new } ≡ change_outcome code sheet.old n marks.old place «record».now claim.now out.old }
 {
-    sheet::change(code, sheet, n, marks, place, record, claim, out)
+    let saved = sheet::change(code, sheet, n, marks, place, record, claim, out);
+    sheet_work::answer(n, saved)
 }
 
 // The records at up to 64 places replaced in one save.
@@ -193,7 +195,8 @@ pub fn luffa_sheet_batch(
 ) -> Answer
     ensures { record { answer = result; sheet = sheet.new; marks = marks.new; out = out.new } ≡ batch_outcome code sheet.old n marks.old places.now «records».now claim.now out.old }
 {
-    sheet_batch::batch(code, sheet, n, marks, places, records, claim, out)
+    let saved = sheet_batch::batch(code, sheet, n, marks, places, records, claim, out);
+    sheet_work::answer(n, saved)
 }
 
 // Struck records removed, with the old place of each that is left.
@@ -208,7 +211,8 @@ pub fn luffa_sheet_close_up(
 ) -> Answer
     ensures { record { answer = result; sheet = sheet.new; marks = marks.new; places = places.new; out = out.new } ≡ close_up_outcome code sheet.old n marks.old claim.now places.old out.old }
 {
-    sheet_close_up::close_up(code, sheet, n, marks, claim, places, out)
+    let saved = sheet_close_up::close_up(code, sheet, n, marks, claim, places, out);
+    sheet_work::answer(n, saved)
 }
 
 // A record added at the end.
@@ -223,7 +227,8 @@ pub fn luffa_sheet_append(
 ) -> Answer
     ensures { record { answer = result; sheet = sheet.new; marks = marks.new; out = out.new } ≡ append_outcome code sheet.old n marks.old «record».now claim.now out.old }
 {
-    sheet::append(code, sheet, n, marks, record, claim, out)
+    let saved = sheet::append(code, sheet, n, marks, record, claim, out);
+    sheet_work::answer(n, saved)
 }
 
 // The last record taken away.
@@ -237,7 +242,8 @@ pub fn luffa_sheet_drop(
 ) -> Answer
     ensures { record { answer = result; sheet = sheet.new; marks = marks.new; out = out.new } ≡ drop_outcome code sheet.old n marks.old claim.now out.old }
 {
-    sheet::drop(code, sheet, n, marks, claim, out)
+    let saved = sheet::drop(code, sheet, n, marks, claim, out);
+    sheet_work::answer(n, saved)
 }
 
 // A record replaced, and where the sheet differs if it is stale.
@@ -258,9 +264,10 @@ pub fn luffa_sheet_change_own(
     ensures marks_after { marks.new ≡ (own_outcome (record { code = code; n = n; sheet = sheet.old; marks = marks.old }) (Change place «record».now) claim.now owned own.now out.old).marks }
     ensures out_after { out.new ≡ (own_outcome (record { code = code; n = n; sheet = sheet.old; marks = marks.old }) (Change place «record».now) claim.now owned own.now out.old).out }
 {
-    sheet_own::answer(sheet_own::change(
+    let saved = sheet_own::change(
         code, sheet, n, marks, place, record, claim, owned, own, out,
-    ))
+    );
+    sheet_own::answer(n, saved)
 }
 
 // A record added at the end, and where the sheet differs if it is stale.
@@ -280,7 +287,8 @@ pub fn luffa_sheet_append_own(
     ensures marks_after { marks.new ≡ (own_outcome (record { code = code; n = n; sheet = sheet.old; marks = marks.old }) (Append «record».now) claim.now owned own.now out.old).marks }
     ensures out_after { out.new ≡ (own_outcome (record { code = code; n = n; sheet = sheet.old; marks = marks.old }) (Append «record».now) claim.now owned own.now out.old).out }
 {
-    sheet_own::answer(sheet_own::append(code, sheet, n, marks, record, claim, owned, own, out))
+    let saved = sheet_own::append(code, sheet, n, marks, record, claim, owned, own, out);
+    sheet_own::answer(n, saved)
 }
 
 // The last record taken away, and where the sheet differs if it is stale.
@@ -299,7 +307,8 @@ pub fn luffa_sheet_drop_own(
     ensures marks_after { marks.new ≡ (own_outcome (record { code = code; n = n; sheet = sheet.old; marks = marks.old }) Drop claim.now owned own.now out.old).marks }
     ensures out_after { out.new ≡ (own_outcome (record { code = code; n = n; sheet = sheet.old; marks = marks.old }) Drop claim.now owned own.now out.old).out }
 {
-    sheet_own::answer(sheet_own::drop(code, sheet, n, marks, claim, owned, own, out))
+    let saved = sheet_own::drop(code, sheet, n, marks, claim, owned, own, out);
+    sheet_own::answer(n, saved)
 }
 
 // The marks of a sheet, those that are wrong replaced.
