@@ -316,7 +316,7 @@ pub fn luffa_sheet_mend(code: usize, sheet: &[u8], n: usize, marks: &mut [u32]) 
     ensures value { result ≡ mend_answer (mend_outcome code sheet.now n marks.old).answer }
     ensures marks_after { marks.new ≡ (mend_outcome code sheet.now n marks.old).marks }
 {
-    mend::answer(mend::mend(code, sheet, n, marks))
+    MendAnswer::from(mend::mend(code, sheet, n, marks))
 }
 
 // Whether the records of a sheet make sense, in this paper's numbers.

@@ -5,7 +5,6 @@ use mathlib.Core.Bool.{Bool, true, false, not}
 use mathlib.Core.List.{List, [], ◌∷◌, ◌++◌, append-nil}
 use Prim.Native.Nat.{ℕ, zero, suc, ◌+◌, ◌-◌, ◌*◌, ◌/◌, ◌^◌, ◌<◌, ◌≤◌}
 use native.Mathlib.Omega.{arith}
-use borrow.Author.Tests.{ne_eqb}
 use lib.ListN.{length, take, drop, length-append, length-drop}
 use lib.Seq.{length-take-le}
 use Rattle.definition.specs.declared.Counted.{Counted}
@@ -55,7 +54,7 @@ noted_so false m l = ap found_in (sym (append-nil l))
 noted_so true m [] = refl
 noted_so true m (i ∷ l) =
     let n : suc (length l) + 1 ≡ suc (length (l ++ m ∷ [])) = omega (arith, length-append l (m ∷ [])) in
-    rw (ne_eqb (suc (length l)) 0 (λ z. absurd (omega arith)), n)
+    rw n
 
 -- a group is five blocks
 five-blocks : (x : List ℕ) → length x ≡ group_bytes → length (blocks x) ≡ 5

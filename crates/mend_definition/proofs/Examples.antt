@@ -7,8 +7,7 @@ use lib.ListN.{replicate, set}
 use Rattle.definition.specs.Refusal.{WIDTH, SHEET, MARKS}
 use Rattle.sheet_definition.specs.Sheet.{World}
 use Rattle.sheet_definition.specs.SheetCalls.{build_outcome, lent}
-use Rattle.mend_definition.specs.declared.Mended.{Mended}
-use Rattle.mend_definition.specs.Mend.{saying, mend, mend_outcome, refused_by}
+use Rattle.mend_definition.specs.Mend.{Saying, saying, mend, mend_outcome, refused_by}
 use Rattle.mend_definition.proofs.Computed.{everything}
 
 -- a sheet of zeros of n records, with marks that a build left
@@ -16,7 +15,7 @@ abbrev pub built : (code n : ℕ) → List ℕ
 built code n = (build_outcome code (replicate 160 0) n (replicate 80 0) (replicate 64 0)).marks
 
 -- what a mend says of marks of such a sheet
-abbrev pub asked : (code n : ℕ) → List ℕ → Mended
+abbrev pub asked : (code n : ℕ) → List ℕ → Saying
 asked code n marks = (mend_outcome code (replicate 160 0) n marks).answer
 
 -- arguments that are refused by a number, whatever the buffers hold that isn't judged

@@ -8,22 +8,15 @@ use Prim.Native.Nat.{ℕ, zero, suc, ◌+◌, ◌<◌}
 use native.Mathlib.Decide.{dec_le, ℕ_discrete}
 use native.Mathlib.Omega.{arith}
 use lib.ListN.{length, length-append}
+use Rattle.std.specs.Prelude.{Option, None, Some, unwrap_or}
+use Rattle.std.proofs.lemmas.Option.{none-some}
 use Rattle.definition.specs.Buffer.{same}
 use Rattle.definition.specs.Refusal.{pick}
 use Rattle.sheet_definition.specs.Sheet.{World}
 use Rattle.sheet_definition.specs.Marks.{mark_at}
 use Rattle.sheet_definition.proofs.Writes.{same_refl, same_eq}
-use Rattle.mend_definition.specs.declared.FirstWrong.{FirstWrong}
-use Rattle.mend_definition.specs.declared.FirstWrong.TheVariants.{None, At}
-use Rattle.mend_definition.specs.Mend.{true_mark, is_wrong, wrong_of, first_in, mark_in}
+use Rattle.mend_definition.specs.Mend.{true_mark, is_wrong, wrong_of, first_in}
 use Rattle.mend_definition.specs.Said.{differing, Lowest}
-
-abbrev is_none : FirstWrong → Bool
-is_none None = true
-is_none (At m) = false
-
-pub not_at : (m : ℕ) → None ≡ At m → ⊥
-not_at m e = false≢true (sym (ap is_none e))
 
 -- marks differ from themselves in none
 pub none_differing : (l : List ℕ) (k : ℕ) → differing l l k ≡ 0
@@ -74,8 +67,8 @@ module _ (w : World) (right : List ℕ) where
           lowest {m = m} (record { among = omega (arith, s.among); differs = s.differs; before = s.before })
 
   -- so the first that is said is the lowest
-  pub first_lowest : (k m : ℕ) → ((m : ℕ) → m < k → mark_at right m ≡ true_mark w m) → (first_in (wrong_of w k) ≡ At m) ↔ Lowest right found k m
-  unfolding first_in mark_in
+  pub first_lowest : (k m : ℕ) → ((m : ℕ) → m < k → mark_at right m ≡ true_mark w m) → (first_in (wrong_of w k) ≡ Some m) ↔ Lowest right found k m
+  unfolding first_in
   first_lowest k m t = go (wrong_of w k) (begins k t)
     where
       one : (i j : ℕ) → Lowest right found k i → Lowest right found k j → i ≡ j
@@ -85,9 +78,9 @@ module _ (w : World) (right : List ℕ) where
             | no d ↦ absurd (b.differs (a.before j (omega arith)))
           ]
 
-      go : (l : List ℕ) → Begins k l → (first_in l ≡ At m) ↔ Lowest right found k m
-      go [] (nothing s) = (λ e. absurd (not_at m e), λ o. absurd (o.differs (s m o.among)))
-      go (i ∷ l) (lowest o) = (λ e. rw (← ap mark_in e) o, λ p. rw (one i m o p))
+      go : (l : List ℕ) → Begins k l → (first_in l ≡ Some m) ↔ Lowest right found k m
+      go [] (nothing s) = (λ e. absurd (none-some m e), λ o. absurd (o.differs (s m o.among)))
+      go (i ∷ l) (lowest o) = (λ e. rw (← ap (λ (f : Option ℕ). unwrap_or f 0) e) o, λ p. rw (one i m o p))
 
   -- and none is wrong exactly when no mark differs
   pub none_differs : (k : ℕ) → ((m : ℕ) → m < k → mark_at right m ≡ true_mark w m)
@@ -102,4 +95,4 @@ module _ (w : World) (right : List ℕ) where
 pub none_first : (l : List ℕ) → (first_in l ≡ None) ↔ (length l ≡ 0)
 unfolding first_in
 none_first [] = (λ e. refl, λ e. refl)
-none_first (m ∷ l) = (λ e. absurd (not_at m (sym e)), λ e. absurd (omega arith))
+none_first (m ∷ l) = (λ e. absurd (none-some m (sym e)), λ e. absurd (omega arith))

@@ -7,6 +7,8 @@ use Prim.Native.Nat.{ℕ, zero, suc, ◌+◌, ◌*◌, ◌≤◌}
 use native.Mathlib.Omega.{arith}
 use borrow.Author.Tests.{le-ltb}
 use lib.ListN.{length}
+use Rattle.std.specs.Prelude.{Option, None, Some, unwrap_or}
+use Rattle.std.proofs.lemmas.Option.{none-some}
 use Rattle.definition.specs.Luffa.{bytes_at}
 use Rattle.definition.specs.Refusal.{Judged, WIDTH, SHEET, MARKS, pick, first_of, numbers_of, condition_of, when_done, known, width_refusal, out_refusal}
 use Rattle.definition.proofs.Refusals.{Numbered, fails, judged}
@@ -20,13 +22,11 @@ use Rattle.sheet_definition.specs.Said.{Laid}
 use Rattle.sheet_definition.proofs.Refused.{code-known, records_fit, marks_fit}
 use Rattle.sheet_definition.proofs.Build.{build-number, build-stays, build_laid}
 use Rattle.sheet_definition.proofs.Rebuilt.{marks_same}
-use Rattle.mend_definition.specs.declared.FirstWrong.{FirstWrong}
-use Rattle.mend_definition.specs.declared.FirstWrong.TheVariants.{None, At}
-use Rattle.mend_definition.specs.Mend.{true_mark, replaced, wrong_of, first_in, saying, mend_rounds, mend_refusals, MendOutcome, mended, refused_by, mend, mend_outcome, mark_in, mend_answer}
+use Rattle.mend_definition.specs.Mend.{true_mark, replaced, wrong_of, first_in, saying, mend_rounds, mend_refusals, MendOutcome, mended, refused_by, mend, mend_outcome, mend_answer}
 use Rattle.mend_definition.specs.Said.{Says, MendStays, MendRefused, opened}
 use Rattle.mend_definition.specs.Said.Opening.{Mend}
 use Rattle.mend_definition.proofs.Replaced.{Replaced, all_behind, replaced_so}
-use Rattle.mend_definition.proofs.Found.{not_at, none_differing, wrong-counted, first_lowest, none_differs, none_first}
+use Rattle.mend_definition.proofs.Found.{none_differing, wrong-counted, first_lowest, none_differs, none_first}
 
 pub mend_determined : (code : ℕ) (sheet : List ℕ) (n : ℕ) (marks : List ℕ) → Determined (mend_outcome code sheet n marks)
 mend_determined code sheet n marks = determined (mend_outcome code sheet n marks)
@@ -157,19 +157,18 @@ module _ (w : World) where
       refused k =
           record {
             wrong = sym (none_differing w.marks (q w.n + 1));
-            first = λ m. (λ e. absurd (not_at m e), λ o. absurd (o.differs refl));
+            first = λ m. (λ e. absurd (none-some m e), λ o. absurd (o.differs refl));
             none = (λ e. refl, λ e. refl);
             nothing_written = (λ e. refl, λ e. refl);
           }
 
   -- in the answer for C, where some were wrong, the first is told by its number
-  pub answer_first : ((mend w).answer.wrong ≡ 0 → ⊥) → (mend w).answer.first ≡ At (mend_answer (mend w).answer).first
-  unfolding mark_in
+  pub answer_first : ((mend w).answer.wrong ≡ 0 → ⊥) → (mend w).answer.first ≡ Some (mend_answer (mend w).answer).first
   answer_first h = go (mend w).answer.first (λ e. h (mend-says.none.0 e))
     where
-      go : (f : FirstWrong) → (f ≡ None → ⊥) → f ≡ At (mark_in f)
+      go : (f : Option ℕ) → (f ≡ None → ⊥) → f ≡ Some (unwrap_or f 0)
       go None n = absurd (n refl)
-      go (At m) n = refl
+      go (Some m) n = refl
 
   -- "Afterwards the marks are those that build would leave": of the same sheet in the same words, all of them
   module _ (out : List ℕ) (h : bytes_at w.code ≤ length out) (e : (mend w).answer.number ≡ 0) where

@@ -1,14 +1,14 @@
 -- Mending marks: document 02, Q-8, by its sentences. The true state of mark m is document 01's: worked out from the starting variables and the
 -- sheet alone, never from marks found.
-use Rattle.std.specs.Prelude.{ℕ, zero, suc, ◌+◌, ◌*◌, Bool, not, List, [], ◌∷◌, ◌++◌, length}
+use Rattle.std.specs.Prelude.{ℕ, zero, suc, ◌+◌, ◌*◌, Bool, not, List, [], ◌∷◌, ◌++◌, length, Option, None, Some, unwrap_or, Result, Ok, Err}
 use Rattle.definition.specs.Buffer.{overwrite_at, same}
 use Rattle.definition.specs.Refusal.{Refusal, DONE, pick, first_of, when_done, width_refusal}
+use Rattle.refusals.specs.declared.Refusal.{Refusal as Reason}
+use Rattle.refusals.specs.Number.{number}
 use Rattle.sheet_definition.specs.Sheet.{World, mark_words, q}
 use Rattle.sheet_definition.specs.Marks.{mark_at, mark_of, state_after}
 use Rattle.sheet_definition.specs.Refusals.{sheet_refusal, marks_refusal}
 use Rattle.sheet_definition.specs.SheetCalls.{lent}
-use Rattle.mend_definition.specs.declared.FirstWrong.{FirstWrong}
-use Rattle.mend_definition.specs.declared.FirstWrong.TheVariants.{None, At}
 use Rattle.mend_definition.specs.declared.Mended.{Mended}
 use Rattle.mend_definition.specs.declared.MendAnswer.{MendAnswer}
 
@@ -31,12 +31,18 @@ wrong_of w zero = []
 wrong_of w (suc k) = wrong_of w k ++ pick (is_wrong w k) (k ∷ []) []
 
 -- "which was first or that none was"
-unfoldable pub first_in : List ℕ → FirstWrong
+unfoldable pub first_in : List ℕ → Option ℕ
 first_in [] = None
-first_in (m ∷ ms) = At m
+first_in (m ∷ ms) = Some m
 
--- "and says how many were wrong, which was first or that none was, and the rounds"
-unfoldable pub saying : (number : ℕ) → (wrong : List ℕ) → (rounds : ℕ) → Mended
+-- "and says how many were wrong, which was first or that none was, and the rounds", beside the number of a refusal or 0
+pub record Saying : Type 0 where
+  pub number : ℕ
+  pub wrong : ℕ
+  pub first : Option ℕ
+  pub rounds : ℕ
+
+unfoldable pub saying : (number : ℕ) → (wrong : List ℕ) → (rounds : ℕ) → Saying
 saying number wrong rounds = record { number = number; wrong = length wrong; first = first_in wrong; rounds = rounds }
 
 -- "which are five for each full group"
@@ -49,7 +55,7 @@ mend_refusals w = width_refusal w.code ∷ sheet_refusal w.n (length w.sheet) �
 
 -- what it says, and the buffers that were lent as they are at the end
 pub record MendOutcome : Type 0 where
-  pub answer : Mended
+  pub answer : Saying
   pub sheet : List ℕ
   pub marks : List ℕ
 
@@ -68,10 +74,11 @@ mend w = let number : ℕ = first_of (mend_refusals w) in when_done number (mend
 abbrev pub mend_outcome : (code : ℕ) → (sheet : List ℕ) → (n : ℕ) → (marks : List ℕ) → MendOutcome
 mend_outcome code sheet n marks = mend (lent code sheet n marks)
 
--- and for C, where the first is 0 if there is none
-unfoldable pub mark_in : FirstWrong → ℕ
-mark_in None = 0
-mark_in (At m) = m
+-- what the mender says, by what it answers: where it is refused "each saying none"
+abbrev pub saying_of : Result Mended Reason → Saying
+saying_of (Ok m) = record { number = DONE; wrong = m.wrong; first = m.first; rounds = m.rounds }
+saying_of (Err r) = record { number = number r; wrong = 0; first = None; rounds = 0 }
 
-abbrev pub mend_answer : Mended → MendAnswer
-mend_answer a = record { number = a.number; wrong = a.wrong; first = mark_in a.first; rounds = a.rounds }
+-- and for C, where the first is 0 if there is none
+abbrev pub mend_answer : Saying → MendAnswer
+mend_answer a = record { number = a.number; wrong = a.wrong; first = unwrap_or a.first 0; rounds = a.rounds }

@@ -1,15 +1,13 @@
 -- The words in which mending is proved: document 02, Q-8, "Afterwards the marks are those that build would leave". One set of marks is compared
 -- with another, and saves may begin at a build or at a mend.
-use Rattle.std.specs.Prelude.{◌≡◌, ◌↔◌, ℕ, zero, suc, ◌+◌, ◌*◌, ◌<◌, ◌≤◌, List, length, drop}
+use Rattle.std.specs.Prelude.{◌≡◌, ◌↔◌, ℕ, zero, suc, ◌+◌, ◌*◌, ◌<◌, ◌≤◌, List, length, drop, None, Some}
 use Rattle.definition.specs.Buffer.{same}
 use Rattle.definition.specs.Refusal.{pick}
 use Rattle.sheet_definition.specs.Sheet.{World, mark_words, q}
 use Rattle.sheet_definition.specs.Marks.{mark_at}
 use Rattle.sheet_definition.specs.SheetCalls.{build_outcome}
 use Rattle.sheet_definition.specs.Run.{left}
-use Rattle.mend_definition.specs.declared.FirstWrong.TheVariants.{None, At}
-use Rattle.mend_definition.specs.declared.Mended.{Mended}
-use Rattle.mend_definition.specs.Mend.{MendOutcome, mend}
+use Rattle.mend_definition.specs.Mend.{Saying, MendOutcome, mend}
 
 -- how many of the first k marks differ
 unfoldable pub differing : (right found : List ℕ) → (k : ℕ) → ℕ
@@ -23,9 +21,9 @@ pub record Lowest (right found : List ℕ) (k m : ℕ) : Type 0 where
   pub before : (j : ℕ) → j < m → mark_at found j ≡ mark_at right j
 
 -- what a mend says of the marks that it found, beside those that are right
-pub record Says (w : World) (right : List ℕ) (a : Mended) : Type 0 where
+pub record Says (w : World) (right : List ℕ) (a : Saying) : Type 0 where
   pub wrong : a.wrong ≡ differing right w.marks (q w.n + 1)
-  pub first : (m : ℕ) → (a.first ≡ At m) ↔ Lowest right w.marks (q w.n + 1) m
+  pub first : (m : ℕ) → (a.first ≡ Some m) ↔ Lowest right w.marks (q w.n + 1) m
   pub none : (a.first ≡ None) ↔ (a.wrong ≡ 0)
   pub nothing_written : (a.wrong ≡ 0) ↔ (right ≡ w.marks)
 

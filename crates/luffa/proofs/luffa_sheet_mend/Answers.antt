@@ -8,6 +8,6 @@ pub returns : goal.returns
 returns c =
     let m = c.mend.ensures in
     record {
-      value = c.answer.ensures ∙ ap (λ (o : MendOutcome). mend_answer o.answer) m;
+      value = c.from.ensures ∙ ap (λ (o : MendOutcome). mend_answer o.answer) m;
       marks_after = ap (λ (o : MendOutcome). o.marks) m;
     }

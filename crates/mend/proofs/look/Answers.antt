@@ -5,8 +5,6 @@ use mathlib.Core.Bool.{Bool, true, false, not}
 use mathlib.Core.List.{List}
 use Prim.Native.Nat.{ℕ, ◌+◌, ◌-◌, ◌*◌}
 use native.Mathlib.Omega.{arith}
-use borrow.Author.Tests.{ne_eqb}
-use lib.Dec.{eqb}
 use lib.ListN.{take, drop}
 use Rattle.definition.specs.declared.State.{State}
 use Rattle.definition.specs.Block.{words_of_all}
@@ -39,25 +37,12 @@ returns-then-not-differs c =
       marks_after = rw t refl;
     }
 
-pub returns-then-found-eq0 : goal.returns-then-found-eq0
-unfolding noted put pick
-returns-then-found-eq0 c =
-    let a = c.args in
-    let t : other _ _ _ ≡ true = sym (said a.m a.marks.now a.s c.differs.ensures c.words-words.ensures) ∙ c.if-not-differs.false in
-    let z : c.args.found.wrong ≡ 0 = c.if-found-eq0.true in
-    record {
-      value = rw (t, z) refl;
-      marks_after = rw t (c.write.ensures ∙ written_at a.marks.now a.m (omega arith) a.s);
-    }
-
 pub returns : goal.returns
 unfolding noted put pick
 returns c =
     let a = c.args in
     let t : other _ _ _ ≡ true = sym (said a.m a.marks.now a.s c.differs.ensures c.words-words.ensures) ∙ c.if-not-differs.false in
-    let f = c.args.found in
-    let z : eqb f.wrong 0 ≡ false = ne_eqb f.wrong 0 c.if-found-eq0.false in
     record {
-      value = rw (t, z) refl;
+      value = rw (t, c.or.ensures) refl;
       marks_after = rw t (c.write.ensures ∙ written_at a.marks.now a.m (omega arith) a.s);
     }
