@@ -6,8 +6,9 @@ use mathlib.Core.List.{List, [], ◌∷◌, ◌++◌, append-nil}
 use Prim.Native.Nat.{ℕ, suc, ◌+◌, ◌-◌, ◌*◌, ◌<◌, ◌≤◌}
 use native.Mathlib.Nat.{zero-add}
 use native.Mathlib.Omega.{arith}
-use lib.ListN.{length, get_or, take, drop, set, length-append}
-use lib.Seq.{drop-cons, set-append_seam, append_snoc}
+use lib.ListN.{length, get_or, take, drop, set, length-append, length-drop}
+use Rattle.std.specs.List.{copy_within}
+use lib.Seq.{drop-cons, set-append_seam, append_snoc, length-take-le}
 use Rattle.definition.specs.Buffer.{overwrite_at, overwrite, joined}
 use Rattle.definition.specs.Refusal.{pick}
 use Rattle.definition.proofs.Buffer.{overwrite_at-more, overwrite_at-none, length-overwrite_at, drop-overwrite_at}
@@ -19,6 +20,14 @@ use Rattle.sheet_definition.proofs.Struck.{fewer, every_standing, standing_one, 
 -- a part of k bytes from byte i on has k
 pub part_size : (i k : ℕ) → i + k - i ≡ k
 part_size i k = omega arith
+
+-- a record copied within a buffer
+pub copied : (i j : ℕ) (l : List ℕ) → i + record_bytes ≤ length l
+    → copy_within l i (i + record_bytes) j ≡ overwrite_at j (take record_bytes (drop i l)) l
+unfolding overwrite_at
+copied i j l h =
+    let n : length (take record_bytes (drop i l)) ≡ record_bytes = length-take-le record_bytes (drop i l) (omega (arith, length-drop i l)) in
+    rw (part_size i record_bytes, n)
 
 -- after the first i records: so many stand, and they are in front, with their old places
 pub record Gathered (sheet₀ places₀ : List ℕ) (i : ℕ) (sheet places : List ℕ) (count : ℕ) : Type 0 where

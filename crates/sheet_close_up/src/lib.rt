@@ -2,7 +2,7 @@
 // under one claim, with one check and one work over the sheet.
 #![tactic(auto)]
 
-ghost use Rattle.std.specs.Prelude.{◌≡◌, ◌+◌, ◌-◌, ◌*◌, ◌≤◌, length, take, drop, replicate, position};
+ghost use Rattle.std.specs.Prelude.{◌≡◌, ◌-◌, ◌*◌, ◌≤◌, length, replicate, position};
 ghost use Rattle.definition.specs.Buffer.{overwrite_at, overwrite, joined};
 ghost use Rattle.sheet_definition.specs.Sheet.{most, record_bytes, cut};
 ghost use Rattle.sheet_definition.specs.Struck.{all_zero, standing, old_places};
@@ -23,14 +23,6 @@ fn first_struck(sheet: &[u8], n: usize) -> Option<usize>
         .position(|record| sheet_struck::zeros(record))
 }
 
-// The record at a place, written at another.
-fn move_record(sheet: &mut [u8], from: usize, to: usize)
-    requires { (record_bytes * (from + 1) ≤ length sheet.old) × (to ≤ from) }
-    ensures { sheet.new ≡ overwrite_at (record_bytes * to) (take record_bytes (drop (record_bytes * from) sheet.old)) sheet.old }
-{
-    sheet.copy_within(RECORD * from..RECORD * (from + 1), RECORD * to);
-}
-
 // The records that stand moved together to the front, with their old places; and how many they are.
 fn gather(sheet: &mut [u8], n: usize, places: &mut [u16]) -> usize
     requires { (n ≤ most) × (record_bytes * n ≤ length sheet.old) × (n ≤ length places.old) }
@@ -40,8 +32,9 @@ fn gather(sheet: &mut [u8], n: usize, places: &mut [u16]) -> usize
 {
     let mut count = 0;
     for i in 0..n {
-        if !sheet_struck::zeros(&sheet[RECORD * i..RECORD * i + RECORD]) {
-            move_record(sheet, i, count);
+        let at = RECORD * i;
+        if !sheet_struck::zeros(&sheet[at..at + RECORD]) {
+            sheet.copy_within(at..at + RECORD, RECORD * count);
             places[count] = i as u16;
             count += 1;
         }

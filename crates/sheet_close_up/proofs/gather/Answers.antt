@@ -9,7 +9,7 @@ use lib.ListN.{length, take, drop}
 use Rattle.definition.specs.Buffer.{overwrite_at}
 use Rattle.sheet_definition.specs.Sheet.{record_bytes}
 use Rattle.sheet_definition.specs.Struck.{all_zero}
-use Rattle.sheet_close_up.proofs.Moved.{part_size, none_gathered, stand, next-record, passed, moved}
+use Rattle.sheet_close_up.proofs.Moved.{part_size, none_gathered, copied, stand, next-record, passed, moved}
 use Rattle.sheet_close_up.proofs.gather.Goals as goal
 use Rattle.sheet_close_up.proofs.gather.Goals.{then-not-zeros, else-not-zeros}
 
@@ -34,7 +34,7 @@ loop-i-preserved c =
     let p' : l.i ≤ length c.args.places.now = omega (arith, p) in
     rw (add-one l.i)
     (stand _ _ _ _ _ _ r p (elim c.if-not-zeros.branch [
-      | then-not-zeros s ↦ rw (s.sheet-is ∙ s.move_record.ensures ∙ ap (λ (x : List ℕ). overwrite_at (record_bytes * l.count) x l.sheet) (next-record _ _ l.i _ _ _ r' p' v), s.places-is, s.count-is, add-one l.count)
+      | then-not-zeros s ↦ rw (s.sheet-is ∙ s.copy_within.ensures.after ∙ copied (record_bytes * l.i) (record_bytes * l.count) l.sheet (omega (arith, r, l.invariant.1)) ∙ ap (λ (x : List ℕ). overwrite_at (record_bytes * l.count) x l.sheet) (next-record _ _ l.i _ _ _ r' p' v), s.places-is, s.count-is, add-one l.count)
           (moved _ _ _ _ _ _ r' p' v (sym (asked c) ∙ s.if-not-zeros.true) p)
       | else-not-zeros s ↦ rw (s.sheet-is, s.places-is, s.count-is) (passed _ _ _ _ _ _ r' p' v (sym (asked c) ∙ s.if-not-zeros.false))
     ]))
