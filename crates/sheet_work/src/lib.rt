@@ -81,17 +81,13 @@ pub fn work_on(
         rounds: before,
     };
     let last = n / 4;
-    let mut k = m;
-    while k < last {
+    for k in m..last {
         let at = GROUP * k;
-        let end = at + GROUP;
-        c = rounds::absorb(w, c, &sheet[at..end]);
-        k += 1;
-        sheet_marks::write(marks, k, c.state);
+        c = rounds::absorb(w, c, &sheet[at..at + GROUP]);
+        sheet_marks::write(marks, k + 1, c.state);
     }
-    let at = GROUP * last;
-    let end = RECORD * n;
-    let d = rounds::last::absorb_last(w, c, &sheet[at..end], rounds::last::CLOSING);
+    let rest = &sheet[GROUP * last..RECORD * n];
+    let d = rounds::last::absorb_last(w, c, rest, rounds::last::CLOSING);
     let e = squeeze::squeeze(w, d, codes::words(code), out);
     e.rounds
 }

@@ -9,8 +9,7 @@ use Rattle.sheet_work.proofs.Groups.{group-on, all_worked}
 use Rattle.sheet_work.proofs.work_on.Goals as goal
 
 pub loop-k-init : goal.loop-k-init
-unfolding q
-loop-k-init c = ((omega arith, refl, omega arith, omega arith, omega arith), (omega arith, refl), refl)
+loop-k-init c = (refl, refl)
 
 pub loop-k-preserved : goal.loop-k-preserved
 unfolding q
@@ -18,11 +17,10 @@ loop-k-preserved c =
     let l = c.loop-k in
     let a = c.args in
     let n = c.write.auto.marks in (
-      (omega arith, refl, omega arith, omega arith, omega arith),
-      (omega (arith, n), n ∙ l.invariant.1.1),
+      n ∙ l.invariant.0,
       group-on _ a.n l.k l.c c.absorb-c.result a.sheet.now l.marks _ (omega arith) (omega arith) (omega arith) c.absorb-c.ensures
           (c.write.ensures ∙ written_at l.marks (l.k + 1) (omega arith) c.absorb-c.result.state)
-          ∙ l.invariant.2,
+          ∙ l.invariant.1,
     )
 
 pub returns : goal.returns
@@ -34,10 +32,10 @@ returns c =
     let marks = a.marks.now in
     let z = all_worked a.code a.n a.m a.before a.sheet.now marks a.out.now c.read.result l.k l.c c.absorb_last-d.result l.marks
     ((rw w at c.read.ensures) ∙ read_at marks a.m (omega arith) _)
-    (omega (arith, l.invariant.0, c.loop-k-test.false))
-    (rw w at l.invariant.2)
+    (omega arith)
+    (rw w at l.invariant.1)
     (rw w at c.absorb_last-d.ensures)
-    c.requires.1 c.requires.5 c.squeeze-e.result _ c.requires.0 c.requires.4 l.invariant.1.0
+    c.requires.1 c.requires.5 c.squeeze-e.result _ c.requires.0 c.requires.4 (omega arith)
     (rw (c.words.ensures, w) at c.squeeze-e.ensures.value, rw (c.words.ensures, w) at c.squeeze-e.ensures.out_after) in record {
       value = z.0;
       marks_after = z.1.0;
@@ -46,4 +44,4 @@ returns c =
 
 pub shape_of-marks : goal.shape_of-marks
 shape_of-marks c =
-    c.loop-k.invariant.1.1
+    c.loop-k.invariant.0
