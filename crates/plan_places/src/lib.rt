@@ -10,13 +10,9 @@ ghost use Rattle.plan_places.specs.Places.{placed};
 pub fn put(sheet: &[u8], n: usize, t: &mut [u16; 65536])
     ensures { (t.new ≡ placed sheet.now n t.old) × (length t.old ≡ 65536) }
 {
-    // Lent as a slice, so that its length is known.
-    let entries = &mut t[..];
-    let mut i = 0;
-    while i < n {
+    for i in 0..n {
         let w = plan_record::read(sheet, i);
-        entries[w.number as usize] = (i % 65536) as u16;
-        i += 1;
+        t[usize::from(w.number)] = (i % 65536) as u16;
     }
 }
 
@@ -24,7 +20,5 @@ pub fn put(sheet: &[u8], n: usize, t: &mut [u16; 65536])
 pub fn at(t: &[u16; 65536], number: u16) -> usize
     ensures { result ≡ get_or t.now number 0 }
 {
-    // Lent as a slice, so that what an entry can be is known.
-    let entries = &t[..];
-    entries[number as usize] as usize
+    usize::from(t[usize::from(number)])
 }
