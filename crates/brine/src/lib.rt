@@ -1,33 +1,31 @@
 // The brine statement over a batch of sheets (document 02, Q-3).
 #![tactic(auto)]
 
-ghost use Rattle.std.specs.Prelude.{◌≡◌, length};
+ghost use Rattle.std.specs.Prelude.{◌≡◌, length, ltb};
+ghost use Rattle.std.specs.List.{list_any};
 ghost use Rattle.definition.specs.Refusal.{first_of};
+ghost use Rattle.refusals.specs.Number.{number_of};
 ghost use Rattle.brine_definition.specs.Statement.{brine_refusals, brine_outcome};
 
 use brine_definition::{SHEETS_MOST, Statement};
+use refusals::Refusal;
 use sheet_definition::{MOST, RECORD};
 
-// Which refusal comes first, from counts and lengths alone. Every count is held to the most before it is added, so that no sum wraps.
-fn judge(sheets: usize, counts: &[usize], intake: usize, spare: usize) -> u32
-    ensures { result ≡ first_of (brine_refusals sheets counts.now intake spare) }
+// Whether a sheet has more records than the most.
+fn one_over(counts: &[usize]) -> bool
+    ensures { result ≡ list_any (λ n. ltb 1024 n) counts.now }
 {
-    if SHEETS_MOST < counts.len() {
-        return refusals::BATCH;
-    }
-    let mut total = 0;
-    let mut k = 0;
-    while k < counts.len() {
-        let n = counts[k];
-        if MOST < n {
-            return refusals::SHEET;
-        }
-        total += n;
-        k += 1;
-    }
-    if sheets < RECORD * total {
-        return refusals::SHEET;
-    }
+    counts.iter().any(|n| MOST < *n)
+}
+
+// Which refusal comes first, from counts and lengths alone. Every count is held to the most before they are added, so that no sum wraps.
+fn judge(sheets: usize, counts: &[usize], intake: usize, spare: usize) -> Result<(), Refusal>
+    ensures { number_of result ≡ first_of (brine_refusals sheets counts.now intake spare) }
+{
+    Refusal::Batch.when(SHEETS_MOST < counts.len())?;
+    Refusal::Sheet.when(one_over(counts))?;
+    let total = counts.iter().sum();
+    Refusal::Sheet.when(sheets < RECORD * total)?;
     brine_sheet::listed(intake, spare, total)
 }
 
@@ -43,36 +41,23 @@ fn sheet_after_sheet(
 {
     // One table for all sheets: what an earlier sheet put into it isn't read in a later one.
     let mut places = [0u16; 65536];
-    let mut sound = 0;
-    let mut faulted = 0;
-    let mut total = 0;
-    let mut overloaded = 0;
+    let mut all = Statement::default();
     let mut at = 0;
-    let mut k = 0;
-    while k < counts.len() {
-        let n = counts[k];
-        let from = RECORD * at;
+    for n in counts {
         let one = brine_sheet::statement(
-            &sheets[from..],
-            n,
+            &sheets[RECORD * at..],
+            *n,
             &mut places,
             &mut intake[at..],
             &mut spare[at..],
         );
-        sound += one.sound;
-        faulted += one.faulted;
-        total += one.intake;
-        overloaded += one.overloaded;
-        at += n;
-        k += 1;
+        all.sound += one.sound;
+        all.faulted += one.faulted;
+        all.intake += one.intake;
+        all.overloaded += one.overloaded;
+        at += *n;
     }
-    Statement {
-        number: refusals::DONE as u64,
-        sound,
-        faulted,
-        intake: total,
-        overloaded,
-    }
+    all
 }
 
 // The page and the totals of a batch; a refused call writes nothing.
@@ -84,15 +69,11 @@ pub fn statement(
 ) -> Statement
     ensures { record { answer = result; intake = intake.new; spare = spare.new } ≡ brine_outcome sheets.now counts.now intake.old spare.old }
 {
-    let number = judge(sheets.len(), counts, intake.len(), spare.len());
-    if number != refusals::DONE {
-        return Statement {
-            number: number as u64,
-            sound: 0,
-            faulted: 0,
-            intake: 0,
-            overloaded: 0,
-        };
+    match judge(sheets.len(), counts, intake.len(), spare.len()) {
+        Ok(()) => sheet_after_sheet(sheets, counts, intake, spare),
+        Err(refusal) => Statement {
+            number: u64::from(u32::from(refusal)),
+            ..Statement::default()
+        },
     }
-    sheet_after_sheet(sheets, counts, intake, spare)
 }

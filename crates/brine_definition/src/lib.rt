@@ -8,7 +8,7 @@ pub const KILOGRAMS: u64 = 1000;
 
 // The refusal's number, and over a batch: sheets sound, sheets faulted, total intake in kilograms a day, injectors overloaded.
 #[repr(C)]
-#[derive(Clone, Copy)]
+#[derive(Clone, Copy, Default)]
 pub struct Statement {
     pub number: u64,
     pub sound: u64,

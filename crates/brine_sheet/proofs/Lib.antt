@@ -1,5 +1,4 @@
 -- Laws that several of this crate's proofs use.
-pub mod Lists
 pub mod Rows
 pub mod Sends
 pub mod Found

@@ -2,8 +2,8 @@
 #![tactic(auto)]
 
 ghost use Rattle.std.specs.Prelude.{◌≡◌, true, [], ◌∷◌, ◌*◌, ◌≤◌, pos, length, replicate};
-ghost use Rattle.std.proofs.Math.Seq.{slice};
-ghost use Rattle.definition.specs.Refusal.{pick, first_of};
+ghost use Rattle.definition.specs.Refusal.{first_of};
+ghost use Rattle.refusals.specs.Number.{number_of};
 ghost use Rattle.plan_definition.specs.Well.{wells};
 ghost use Rattle.plan_definition.specs.Rules.{injector};
 ghost use Rattle.plan_definition.specs.Check.{sound};
@@ -17,33 +17,16 @@ ghost use Rattle.brine_sheet.specs.Sent.{Named, AllNamed, brought_to, sent_to, A
 
 use brine_definition::{KILOGRAMS, Statement};
 use plan_definition::{INJECTOR, Link, PRODUCER, Well};
-use refusals::DONE;
-
-// Zeros in both lists.
-fn clear(intake: &mut [u64], spare: &mut [i64])
-    requires { length spare.old ≡ length intake.old }
-    ensures { (intake.new ≡ replicate (length intake.old) 0) × (spare.new ≡ replicate (length intake.old) (pos 0)) }
-{
-    let n = intake.len();
-    let mut i = 0;
-    while i < n {
-        intake[i] = 0;
-        spare[i] = 0;
-        i += 1;
-    }
-}
+use refusals::Refusal;
 
 // What links at a rate bring, added to the intakes at the places of the injectors that they name.
-fn send(rate: u64, links: [Link; 4], count: usize, places: &[u16; 65536], intake: &mut [u64])
-    requires { (count ≤ 4) × Named places.now (length intake.old) (slice 0 count links) × Takes (brought_to places.now rate (slice 0 count links)) intake.old }
-    ensures { Added (brought_to places.now rate (slice 0 count links)) intake.old intake.new }
+fn send(rate: u64, links: &[Link], places: &[u16; 65536], intake: &mut [u64])
+    requires { Named places.now (length intake.old) links.now × Takes (brought_to places.now rate links.now) intake.old }
+    ensures { Added (brought_to places.now rate links.now) intake.old intake.new }
 {
-    let mut k = 0;
-    while k < count {
-        let l = links[k];
+    for l in links {
         let p = plan_places::at(places, l.injector);
-        intake[p] = intake[p] + rate * (l.share as u64);
-        k += 1;
+        intake[p] += rate * u64::from(l.share);
     }
 }
 
@@ -52,24 +35,13 @@ fn send_all(sheet: &[u8], n: usize, places: &[u16; 65536], intake: &mut [u64])
     requires { (40 * n ≤ length sheet.now) × AllNamed places.now (length intake.old) (wells n sheet.now) × Takes (sent_to places.now (wells n sheet.now)) intake.old }
     ensures { Added (sent_to places.now (wells n sheet.now)) intake.old intake.new }
 {
-    let mut i = 0;
-    while i < n {
+    for i in 0..n {
         let w = plan_record::read(sheet, i);
         if w.kind == PRODUCER {
-            let rate = w.rate as u64;
-            let links = w.links;
-            let count = w.count as usize;
-            send(rate, links, count, places, intake);
+            let links = &w.links[..usize::from(w.count)];
+            send(u64::from(w.rate), links, places, intake);
         }
-        i += 1;
     }
-}
-
-// 1 where a spare is below zero, else 0.
-fn below_zero(s: i64) -> u64
-    ensures { result ≡ pick (below_zero s) 1 0 }
-{
-    (s < 0) as u64
 }
 
 // What is spare of an injector's capacity at an intake, in kilograms a day; 0 for another well. The bound is what 1,024 producers send at most.
@@ -80,8 +52,7 @@ fn spare_of(w: Well, intake: u64) -> i64
     if w.kind != INJECTOR {
         return 0;
     }
-    let excess = (intake as i64) - ((KILOGRAMS * (w.rate as u64)) as i64);
-    -excess
+    (KILOGRAMS * u64::from(w.rate)) as i64 - intake as i64
 }
 
 // The spares of a sound sheet's records, whose intakes are there already, and its part of the answer.
@@ -89,24 +60,14 @@ fn settle(sheet: &[u8], n: usize, intake: &[u64], spare: &mut [i64]) -> Statemen
     requires { (40 * n ≤ length sheet.now) × (length spare.old ≡ n) × (sound (wells n sheet.now) ≡ true) × (intake.now ≡ intakes (rows (wells n sheet.now))) × (sum intake.now ≤ 102400000000) }
     ensures { (result ≡ statement_of (wells n sheet.now ∷ [])) × (spare.new ≡ spares (rows (wells n sheet.now))) }
 {
-    let mut total: u64 = 0;
-    let mut overloaded: u64 = 0;
-    let mut i = 0;
-    while i < n {
-        let w = plan_record::read(sheet, i);
-        let a = intake[i];
-        let s = spare_of(w, a);
-        spare[i] = s;
-        total += a;
-        overloaded += below_zero(s);
-        i += 1;
+    for (i, s) in spare.iter_mut().enumerate() {
+        *s = spare_of(plan_record::read(sheet, i), intake[i]);
     }
     Statement {
-        number: 0,
         sound: 1,
-        faulted: 0,
-        intake: total,
-        overloaded,
+        intake: intake.iter().sum(),
+        overloaded: spare.iter().filter(|s| **s < 0).count() as u64,
+        ..Statement::default()
     }
 }
 
@@ -126,19 +87,6 @@ fn sound_sheet(
     settle(sheet, n, intake, spare)
 }
 
-// A statement with no figures: of a refused call its number, of a faulted sheet that it is one.
-fn bare(number: u64, faulted: u64) -> Statement
-    ensures { result ≡ record { number = number; sound = 0; faulted = faulted; intake = 0; overloaded = 0 } }
-{
-    Statement {
-        number,
-        sound: 0,
-        faulted,
-        intake: 0,
-        overloaded: 0,
-    }
-}
-
 // The rows of a sheet, in lists as long as it has records, and its part of the answer.
 fn page(
     sheet: &[u8],
@@ -150,25 +98,30 @@ fn page(
     requires { (n ≤ 1024) × (40 * n ≤ length sheet.now) × (length intake.old ≡ n) × (length spare.old ≡ n) }
     ensures { Stated (wells n sheet.now) result intake.new spare.new × (places.new ≡ placed_if (sound (wells n sheet.now)) sheet.now n places.old) }
 {
-    clear(intake, spare);
+    intake.fill(0);
+    spare.fill(0);
     if plan::says_sound(plan::check(sheet, n)) {
         return sound_sheet(sheet, n, places, intake, spare);
     }
-    bare(DONE as u64, 1)
+    Statement {
+        faulted: 1,
+        ..Statement::default()
+    }
 }
 
 // 25: whether both lists have a place for each of so many records.
-pub fn listed(intake: usize, spare: usize, records: usize) -> u32
-    ensures { result ≡ first_of (list_refusal records intake spare ∷ []) }
+pub fn listed(intake: usize, spare: usize, records: usize) -> Result<(), Refusal>
+    ensures { number_of result ≡ first_of (list_refusal records intake spare ∷ []) }
 {
-    refusals::when((intake < records) | (spare < records), refusals::LIST)
+    Refusal::List.when((intake < records) | (spare < records))
 }
 
 // The first refusal of a batch of one sheet, from its numbers alone.
-fn judged(sheet: usize, n: usize, intake: usize, spare: usize) -> u32
-    ensures { result ≡ first_of (brine_refusals sheet (n ∷ []) intake spare) }
+fn judged(sheet: usize, n: usize, intake: usize, spare: usize) -> Result<(), Refusal>
+    ensures { number_of result ≡ first_of (brine_refusals sheet (n ∷ []) intake spare) }
 {
-    refusals::first(sheet_judge::records(n, sheet), listed(intake, spare, n))
+    sheet_judge::has_records(n, sheet)?;
+    listed(intake, spare, n)
 }
 
 // The brine statement over a batch of this sheet alone. The table is lent so that a batch has one for all its sheets;
@@ -182,9 +135,11 @@ pub fn statement(
 ) -> Statement
     ensures { (record { answer = result; intake = intake.new; spare = spare.new } ≡ brine_outcome sheet.now (n ∷ []) intake.old spare.old) × (places.new ≡ table_after sheet.now n (length intake.old) (length spare.old) places.old) }
 {
-    let number = judged(sheet.len(), n, intake.len(), spare.len());
-    if number != DONE {
-        return bare(number as u64, 0);
+    match judged(sheet.len(), n, intake.len(), spare.len()) {
+        Ok(()) => page(sheet, n, places, &mut intake[..n], &mut spare[..n]),
+        Err(refusal) => Statement {
+            number: u64::from(u32::from(refusal)),
+            ..Statement::default()
+        },
     }
-    page(sheet, n, places, &mut intake[..n], &mut spare[..n])
 }

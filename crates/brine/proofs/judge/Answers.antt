@@ -1,80 +1,60 @@
--- `brine::judge` meets its contract. The loop's invariant: the counts that are left decide, and give the rest of the sum.
+-- `brine::judge` meets its contract: 13, 5 and 25 in turn, and of counts that none is over the sum fits.
 -- Assumes nothing.
-use mathlib.Core.Path.{◌≡◌, refl, sym, ◌∙◌}
+use mathlib.Core.Path.{◌≡◌, sym, ◌∙◌}
 use mathlib.Core.List.{[], ◌∷◌}
-use Prim.Native.Nat.{◌*◌}
-use native.Mathlib.Numerals.{add-one}
+use Prim.Native.Nat.{◌^◌, ◌<◌, ◌≤◌}
 use native.Mathlib.Omega.{arith}
-use borrow.Author.Tests.{lt-ltb, le-ltb}
-use lib.Dec.{ltb}
-use lib.ListN.{length}
-use Rattle.definition.specs.Refusal.{SHEET, pick, first_of}
+use borrow.Author.Rules.{rules}
+use Rattle.std.specs.List.{sum as std_sum}
+use Rattle.refusals.proofs.Judged.{refused, passed}
 use Rattle.brine_definition.specs.Count.{sum}
-use Rattle.brine_definition.specs.Statement.{list_refusal, brine_refusals}
-use Rattle.brine.proofs.Counts.{sum_step, sum_none, is_over, not_over, none_over}
+use Rattle.brine_sheet.proofs.Rows.{summed}
+use Rattle.brine.proofs.Counts.{any_over, sum_small, in_turn}
 use Rattle.brine.proofs.judge.Goals as goal
 
-pub returns-then-counts-gt-SHEETS_MOST : goal.returns-then-counts-gt-SHEETS_MOST
-unfolding brine_refusals first_of pick
-returns-then-counts-gt-SHEETS_MOST c = rw (lt-ltb 64 (length c.args.counts.now) (omega arith))
-
-pub loop-k-init : goal.loop-k-init
-loop-k-init c = (omega arith, omega arith, omega arith, refl)
-
-pub returns-then-n-gt-MOST : goal.returns-then-n-gt-MOST
-unfolding brine_refusals first_of pick
-returns-then-n-gt-MOST c =
-    let l = c.loop-k in
-    let counts = c.args.counts.now in
-    rw (le-ltb 64 (length counts) (omega arith), sym l.invariant.3 ∙ is_over counts l.k (omega arith) (omega arith))
-
-pub loop-k-preserved : goal.loop-k-preserved
-loop-k-preserved c =
-    let l = c.loop-k in
-    let counts = c.args.counts.now in
-    rw (add-one l.k) (
-      omega arith,
-      omega arith,
-      omega (arith, sum_step counts l.k (omega arith)),
-      sym (not_over counts l.k (omega arith) (omega arith)) ∙ l.invariant.3,
-    )
-
--- after the loop the sum is whole, and what is left is to hold it to the lengths
-left : (c : goal.Then-sheets-total) →
+pub returns-in_err-when : goal.returns-in_err-when
+returns-in_err-when c =
     let a = c.args in
-    let total = c.loop-k.total in
-    first_of (brine_refusals a.sheets a.counts.now a.intake a.spare)
-    ≡ pick (ltb a.sheets (40 * total)) SHEET (first_of (list_refusal total a.intake a.spare ∷ []))
-unfolding brine_refusals first_of pick
-left c =
-    let l = c.loop-k in
-    let counts = c.args.counts.now in
-    let e : l.total ≡ sum counts = omega (arith, sum_none counts l.k (omega arith)) in
-    rw (le-ltb 64 (length counts) (omega arith), sym l.invariant.3 ∙ none_over counts l.k (omega arith), e)
+    refused _ _ (_ ∷ []) (_ ∷ _ ∷ _ ∷ []) c.from_residual.ensures.1 c.in_err-when.ensures ∙ sym (in_turn a.sheets a.counts.now a.intake a.spare)
 
--- after the loop the sum is whole, and what is left is to hold it to the lengths
-left-2 : (c : goal.After-listed) →
+pub returns-in_err-when-2 : goal.returns-in_err-when-2
+returns-in_err-when-2 c =
     let a = c.args in
-    let total = c.loop-k.total in
-    first_of (brine_refusals a.sheets a.counts.now a.intake a.spare)
-    ≡ pick (ltb a.sheets (40 * total)) SHEET (first_of (list_refusal total a.intake a.spare ∷ []))
-unfolding brine_refusals first_of pick
-left-2 c =
-    let l = c.loop-k in
-    let counts = c.args.counts.now in
-    let e : l.total ≡ sum counts = omega (arith, sum_none counts l.k (omega arith)) in
-    rw (le-ltb 64 (length counts) (omega arith), sym l.invariant.3 ∙ none_over counts l.k (omega arith), e)
+    refused _ _ (_ ∷ []) (_ ∷ _ ∷ []) c.from_residual-in_err-when-2.ensures.1 (rw (c.one_over.ensures, ← any_over a.counts.now) at c.in_err-when-2.ensures)
+    ∙ sym (in_turn a.sheets a.counts.now a.intake a.spare ∙ passed (_ ∷ []) (_ ∷ _ ∷ _ ∷ []) (omega arith) c.in_ok-when.ensures)
 
-pub returns-then-sheets-total : goal.returns-then-sheets-total
-unfolding pick
-returns-then-sheets-total c =
+-- the sum is small
+small : (c : goal.After-sum-total) → sum c.args.counts.now ≤ 65536
+small c =
+    let counts = c.args.counts.now in
+    sum_small counts c.in_ok-when.ensures (rw (c.one_over.ensures, ← any_over counts) at c.in_ok-when-2.ensures)
+
+pub sum-total-requires-clause-fits : goal.sum-total-requires-clause-fits
+sum-total-requires-clause-fits c =
+    let counts = c.args.counts.now in
+    let few = sum_small counts c.in_ok-when.ensures (rw (c.one_over.ensures, ← any_over counts) at c.in_ok-when-2.ensures) in
+    let h : std_sum counts < 2 ^ 64 = omega (arith, summed counts, few) in
+    search rules
+
+pub overflow_mul-total : goal.overflow_mul-total
+overflow_mul-total c =
+    let counts = c.args.counts.now in
+    let total : c.sum-total.result ≡ std_sum counts = search rules in
+    omega (arith, summed counts, small c, total)
+
+pub returns-in_err-when-3 : goal.returns-in_err-when-3
+returns-in_err-when-3 c =
     let a = c.args in
-    let total = c.loop-k.total in
-    rw (left c, lt-ltb a.sheets (40 * total) (omega arith))
+    let total : c.sum-total.result ≡ std_sum a.counts.now = search rules in
+    refused _ _ (_ ∷ []) (_ ∷ []) c.from_residual-in_err-when-3.ensures.1 (rw (total, ← summed a.counts.now) at c.in_err-when-3.ensures)
+    ∙ sym (in_turn a.sheets a.counts.now a.intake a.spare ∙ passed (_ ∷ []) (_ ∷ _ ∷ _ ∷ []) (omega arith) c.in_ok-when.ensures
+    ∙ passed (_ ∷ []) (_ ∷ _ ∷ []) (omega arith) (rw (c.one_over.ensures, ← any_over a.counts.now) at c.in_ok-when-2.ensures))
 
 pub returns : goal.returns
-unfolding pick
 returns c =
     let a = c.args in
-    let total = c.loop-k.total in
-    rw (left-2 c, le-ltb a.sheets (40 * total) (omega arith)) c.listed.ensures
+    let total : c.sum-total.result ≡ std_sum a.counts.now = search rules in
+    (rw (total, ← summed a.counts.now) at c.listed.ensures)
+    ∙ sym (in_turn a.sheets a.counts.now a.intake a.spare ∙ passed (_ ∷ []) (_ ∷ _ ∷ _ ∷ []) (omega arith) c.in_ok-when.ensures
+    ∙ passed (_ ∷ []) (_ ∷ _ ∷ []) (omega arith) (rw (c.one_over.ensures, ← any_over a.counts.now) at c.in_ok-when-2.ensures)
+    ∙ passed (_ ∷ []) (_ ∷ []) (omega arith) (rw (total, ← summed a.counts.now) at c.in_ok-when-3.ensures))

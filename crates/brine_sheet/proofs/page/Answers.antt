@@ -2,21 +2,24 @@
 -- Assumes nothing.
 use mathlib.Core.Path.{◌≡◌, sym, ap, ◌∙◌}
 use mathlib.Core.Bool.{false}
+use borrow.Author.Rules.{rules}
 use lib.ListN.{length, length-replicate, replicate}
 use lib.IntN.{pos}
 use Rattle.plan_definition.specs.Well.{wells}
 use Rattle.plan_definition.specs.Check.{sound}
 use Rattle.plan_definition.proofs.Listed.{length-wells}
 use Rattle.plan_definition.proofs.Tested.{says}
+use Rattle.brine_definition.specs.declared.Statement.{Statement}
 use Rattle.brine_definition.proofs.Sound.{faulted-intakes, faulted-spares}
 use Rattle.brine_sheet.specs.Table.{placed_if}
+use Rattle.brine_sheet.proofs.Rows.{no_figures}
 use Rattle.brine_sheet.proofs.Alone.{faulted-alone}
 use Rattle.brine_sheet.proofs.page.Goals as goal
 
 pub sound_sheet-requires : goal.sound_sheet-requires
 sound_sheet-requires c =
-    let intake : c.clear.new.intake ≡ replicate c.args.n 0 = rw c.requires.2 at c.clear.ensures.0 in
-    let spare : c.clear.new.spare ≡ replicate c.args.n (pos 0) = rw c.requires.2 at c.clear.ensures.1 in
+    let intake : c.fill.new.self ≡ replicate c.args.n 0 = search rules in
+    let spare : c.fill-2.new.self ≡ replicate c.args.n (pos 0) = search rules in
     let e = sym (c.says_sound.ensures ∙ says _ _ _ c.requires.0 c.requires.1 c.check.ensures) ∙ c.if-says_sound.true in
     (c.requires.0, c.requires.1, e, intake, ap length spare ∙ length-replicate c.args.n (pos 0))
 
@@ -33,9 +36,6 @@ returns c =
     let ws = wells a.n a.sheet.now in
     let f : sound ws ≡ false = sym (c.says_sound.ensures ∙ says _ _ _ c.requires.0 c.requires.1 c.check.ensures) ∙ c.if-says_sound.false in
     let long = length-wells a.n a.sheet.now in
-    let intake : c.clear.new.intake ≡ replicate a.n 0 = rw c.requires.2 at c.clear.ensures.0 in
-    let spare : c.clear.new.spare ≡ replicate a.n (pos 0) = rw c.requires.2 at c.clear.ensures.1 in
-    ((c.bare.ensures ∙ faulted-alone ws f, intake ∙ rw (faulted-intakes ws f, long), spare ∙ rw (faulted-spares ws f, long)), rw f)
-
-pub clear-requires : goal.clear-requires
-clear-requires c = c.requires.3 ∙ sym c.requires.2
+    let intake : c.fill.new.self ≡ replicate a.n 0 = search rules in
+    let spare : c.fill-2.new.self ≡ replicate a.n (pos 0) = search rules in
+    ((ap (λ (d : Statement). record { number = d.number; sound = d.sound; faulted = 1; intake = d.intake; overloaded = d.overloaded }) (no_figures c.default.result c.default.ensures) ∙ faulted-alone ws f, intake ∙ rw (faulted-intakes ws f, long), spare ∙ rw (faulted-spares ws f, long)), rw f)

@@ -1,17 +1,15 @@
 -- The invariants of `brine_sheet::send_all`.
 use mathlib.Core.Path.{◌≡◌}
-use Prim.Native.Nat.{ℕ, ◌+◌, ◌-◌, ◌≤◌}
+use Prim.Native.Nat.{ℕ, ◌+◌}
 use lib.ListN.{length, get_or}
 use Rattle.plan_definition.specs.Well.{wells}
 use Rattle.plan_definition.proofs.Places.{left}
 use Rattle.brine_sheet.specs.Sent.{sent_to}
 use Rattle.brine_sheet.proofs.send_all.Given as goal
 
+-- what is there and what the wells left send are the whole
 abbrev pub invariant-loop-i : goal.invariant-loop-i
-invariant-loop-i l =
-    (l.i ≤ l.n)
-    × (length l.intake ≡ length l.initial.intake)
-    × ((q : ℕ) → get_or l.intake q 0 + sent_to l.places (left l.i l.n l.sheet) q ≡ get_or l.initial.intake q 0 + sent_to l.places (wells l.n l.sheet) q)
-
-abbrev pub decreases-loop-i : goal.decreases-loop-i
-decreases-loop-i l = l.n - l.i
+invariant-loop-i l = record {
+  long : length l.intake ≡ length l.initial.intake;
+  whole : (q : ℕ) → get_or l.intake q 0 + sent_to l.places (left l.i l.n l.sheet) q ≡ get_or l.initial.intake q 0 + sent_to l.places (wells l.n l.sheet) q;
+}

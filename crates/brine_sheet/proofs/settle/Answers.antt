@@ -1,107 +1,68 @@
--- `brine_sheet::settle` meets its contract. The loop's invariant: the rows left have the rest of the lists and of the sums.
+-- `brine_sheet::settle` meets its contract. The loop's invariant: the spares passed are their rows'.
 -- Assumes nothing.
 use mathlib.Core.Path.{◌≡◌, sym, ◌∙◌, ap}
-use mathlib.Core.List.{List, [], append-nil}
-use Prim.Native.Nat.{ℕ, suc, ◌+◌, ◌<◌, ◌≤◌}
-use native.Mathlib.Numerals.{add-one}
+use mathlib.Core.List.{map-map}
+use Prim.Native.Nat.{◌^◌, ◌<◌}
 use native.Mathlib.Omega.{arith}
-use lib.ListN.{length, get_or, drop, length-set}
-use lib.Seq.{take_all, drop-cons, append_snoc}
+use borrow.Author.Rules.{rules}
+use lib.IntN.{pos}
+use lib.Signed.{lt_z}
+use lib.ListN.{length, get_or}
+use lib.Seq.{get_or-set_same, get_or-set_other}
 use mir.Syntax.{w64}
 use mir.Val.{to_z, of_z}
 use mir.Facts.{to_z-of_z}
-use Rattle.definition.specs.Refusal.{pick}
+use Rattle.std.specs.List.{sum as std_sum, count_by}
+use Rattle.std.proofs.Common.{below_more}
 use Rattle.plan_definition.specs.Well.{wells}
 use Rattle.plan_definition.proofs.Places.{well_at}
+use Rattle.plan_definition.proofs.Listed.{column}
 use Rattle.plan_record.proofs.Total.{well_read}
-use Rattle.brine_definition.specs.Count.{sum, count}
-use Rattle.brine_definition.specs.Page.{Row, rows}
+use Rattle.brine_definition.specs.declared.Statement.{Statement}
+use Rattle.brine_definition.specs.Page.{rows, row_in}
 use Rattle.brine_definition.specs.Statement.{intakes, spares, below_zero}
 use Rattle.brine_definition.specs.Said.{row_at}
-use Rattle.brine_definition.proofs.Sums.{pick-most}
-use Rattle.brine_sheet.proofs.Lists.{stored, next}
-use Rattle.brine_sheet.proofs.Rows.{rows_left, rows_all, rows_step, rows_none, spare_in, statement_of_lem}
+use Rattle.brine_definition.proofs.Sums.{at_most_sum}
+use Rattle.brine_sheet.proofs.Rows.{length-rows_intakes, intake_at, spare_in, statement_of_lem, no_figures, summed, counted}
 use Rattle.brine_sheet.proofs.settle.Goals as goal
 
-pub loop-i-init : goal.loop-i-init
-loop-i-init c =
-    let e = rows_all c.args.n c.args.sheet.now in
-    (omega arith, omega arith, c.requires.1, rw e c.requires.3, omega arith, rw e (omega arith), rw e)
+pub bounds-intake-i : goal.bounds-intake-i
+bounds-intake-i c = omega (arith, ap length c.requires.3, length-rows_intakes c.args.n c.args.sheet.now, c.requires.1)
 
--- the row at the place
-abbrev row : goal.After-below_zero-overloaded → Row
-row c = row_at c.args.n c.loop-i.i c.args.sheet.now
-
--- the intake that is read is the row's, and those after it are the other rows'
-intake_is : (n : ℕ) (sheet intake : List ℕ) (i : ℕ) → i < n → drop i intake ≡ intakes (rows_left i n sheet) →
-    (i < length intake) × (get_or intake i 0 ≡ (row_at n i sheet).intake) × (drop (suc i) intake ≡ intakes (rows_left (suc i) n sheet))
-unfolding intakes
-intake_is n sheet intake i h e =
-    next intake i (row_at n i sheet).intake 0 (intakes (rows_left (suc i) n sheet)) (e ∙ ap intakes (rows_step n sheet i h))
-
--- it is part of the total
-total_left : (n : ℕ) (sheet intake : List ℕ) (i t : ℕ) → i < n → drop i intake ≡ intakes (rows_left i n sheet)
-    → t + sum (drop i intake) ≡ sum intake → t + (get_or intake i 0 + sum (drop (suc i) intake)) ≡ sum intake
-unfolding sum
-total_left n sheet intake i t h e s = rw (drop-cons intake i 0 (intake_is n sheet intake i h e).0) at s
-
--- the spare, read back from its bits, is the row's
-spare_is : (c : goal.After-below_zero-overloaded) → to_z w64 (of_z w64 c.spare_of-s.result) ≡ (row c).spare
-spare_is c =
-    let sheet = c.args.sheet.now in
-    let i = c.loop-i.i in
-    let read : c.read-w.result ≡ well_at i sheet = c.read-w.ensures ∙ well_read sheet i (omega arith) in
-    to_z-of_z {w = w64} (record { sfits = c.spare_of-s.type_inv })
-    ∙ (rw read at c.spare_of-s.ensures)
-    ∙ spare_in (wells c.args.n sheet) c.requires.2 (well_at i sheet) _ (intake_is _ _ _ _ (omega arith) c.loop-i.invariant.3).1
-
-overloaded_is : (c : goal.After-below_zero-overloaded)
-    → c.below_zero-overloaded.result ≡ pick (below_zero (row c).spare) 1 0
-overloaded_is c = rw (← spare_is c) c.below_zero-overloaded.ensures
-
-one_more : (c : goal.After-below_zero-overloaded) → c.below_zero-overloaded.result ≤ 1
-one_more c = rw (overloaded_is c) (pick-most (below_zero (row c).spare) 1 1 (λ e. omega arith))
+pub spare_of-requires : goal.spare_of-requires
+spare_of-requires c = omega (arith, at_most_sum c.args.intake.now c.loop-i.i, c.requires.4)
 
 pub loop-i-preserved : goal.loop-i-preserved
-unfolding spares count
 loop-i-preserved c =
     let l = c.loop-i in
-    let e = rows_step c.args.n c.args.sheet.now l.i (omega arith) in (
-      omega arith,
-      omega (arith, one_more c),
-      simp length-set l.invariant.2,
-      rw (add-one l.i) (intake_is _ _ _ _ (omega arith) c.loop-i.invariant.3).2,
-      rw (add-one l.i) (omega (arith, total_left _ _ _ _ _ (omega arith) c.loop-i.invariant.3 c.loop-i.invariant.4)),
-      rw (add-one l.i, overloaded_is c) (omega (arith, rw e at l.invariant.5)),
-      rw (spare_is c, stored l.spare l.i (row c).spare (omega arith), append_snoc, add-one l.i) (rw e at l.invariant.6),
-    )
+    let n = c.args.n in
+    let sheet = c.args.sheet.now in
+    let read : c.read.result ≡ well_at l.i sheet = c.read.ensures ∙ well_read sheet l.i (omega (arith, c.requires.0, c.requires.1)) in
+    let intake : get_or c.args.intake.now l.i 0 ≡ (row_at n l.i sheet).intake = rw c.requires.3 (intake_at n sheet l.i (omega (arith, c.requires.1))) in
+    let told : to_z w64 (of_z w64 c.spare_of.result) ≡ (row_at n l.i sheet).spare =
+    to_z-of_z {w = w64} (record { sfits = c.spare_of.type_inv }) ∙ (rw read at c.spare_of.ensures) ∙ spare_in (wells n sheet) c.requires.2 (well_at l.i sheet) _ intake in
+    below_more _ _
+    (λ q h. get_or-set_other l.spare l.i q _ (pos 0) (λ e. omega arith) ∙ l.invariant q h)
+    (get_or-set_same l.spare l.i _ (pos 0) (omega arith) ∙ told)
+
+pub sum-requires-clause-fits : goal.sum-requires-clause-fits
+sum-requires-clause-fits c =
+    let h : std_sum c.args.intake.now < 2 ^ 64 = omega (arith, summed c.args.intake.now, c.requires.4) in
+    search rules
 
 pub returns : goal.returns
-unfolding intakes spares sum count
+unfolding intakes spares below_zero rows
 returns c =
     let l = c.loop-i in
+    let n = c.args.n in
     let sheet = c.args.sheet.now in
-    let e : l.i ≡ c.args.n = omega arith in
-    let none : rows_left l.i c.args.n sheet ≡ [] = rw e (rows_none c.args.n sheet) in
-    let rs = rows (wells c.args.n sheet) in
-    let intake : l.total ≡ sum (intakes rs) = omega (arith, l.invariant.4, ap sum (rw none at l.invariant.3), ap sum c.requires.3) in
-    let overloaded : l.overloaded ≡ count below_zero (spares rs) = omega (arith, rw none at l.invariant.5) in (
-      rw (statement_of_lem _ c.requires.2, intake, overloaded),
-      sym (take_all l.i l.spare (omega arith)) ∙ (rw (none, append-nil) at l.invariant.6),
+    let ws = wells n sheet in
+    let spare : l.spare ≡ spares (rows ws) =
+    column n sheet (λ w. (row_in ws w).spare) (pos 0) l.spare (omega (arith, l.auto.spare, c.requires.1)) (λ q h. l.invariant q (omega (arith, l.auto.spare, c.requires.1)))
+    ∙ sym (map-map (λ r. r.spare) (row_in ws) ws) in
+    let total : c.sum.result ≡ std_sum c.args.intake.now = search rules in
+    let many : c.count.result ≡ count_by (λ s. lt_z s (pos 0)) l.spare = search rules in (
+      ap (λ (d : Statement). record { number = d.number; sound = 1; faulted = d.faulted; intake = c.sum.result; overloaded = c.count.result }) (no_figures c.default.result c.default.ensures)
+          ∙ rw (statement_of_lem _ c.requires.2, total, many, ← spare, ← c.requires.3, summed c.args.intake.now, counted below_zero l.spare),
+      spare,
     )
-
-pub bounds-intake-i : goal.bounds-intake-i
-bounds-intake-i c =
-    (intake_is _ _ _ _ (omega arith) c.loop-i.invariant.3).0
-
-pub spare_of-s-requires : goal.spare_of-s-requires
-spare_of-s-requires c =
-    omega (arith, total_left _ _ _ _ _ (omega arith) c.loop-i.invariant.3 c.loop-i.invariant.4)
-
-pub overflow_add-total : goal.overflow_add-total
-overflow_add-total c =
-    omega (arith, total_left _ _ _ _ _ (omega arith) c.loop-i.invariant.3 c.loop-i.invariant.4)
-
-pub overflow_add-overloaded : goal.overflow_add-overloaded
-overflow_add-overloaded c =
-    omega (arith, one_more c)
