@@ -342,5 +342,5 @@ pub fn luffa_plan_brine(
 pub fn luffa_plan_reach(sheet: &[u8], n: usize, well: usize, hops: usize, reached: &mut [u8]) -> u32
     ensures { record { number = result; reached = reached.new } ≡ reach_outcome sheet.now n well hops reached.old }
 {
-    reach::reach(sheet, n, well, hops, reached)
+    refusals::number_of(reach::reach(sheet, n, well, hops, reached))
 }

@@ -1,23 +1,30 @@
 -- What a call may rely on once its refusals were judged.
 -- Assumes nothing.
-use mathlib.Core.Path.{◌≡◌}
+use mathlib.Core.Path.{◌≡◌, sym}
 use mathlib.Core.Bool.{not}
 use mathlib.Core.List.{List, [], ◌∷◌}
 use Prim.Native.Nat.{ℕ, ◌*◌, ◌≤◌}
-use native.Mathlib.Decide.{ℕ_discrete}
 use native.Mathlib.Omega.{arith}
-use borrow.Author.Tests.{eq-eqb, ne_eqb, lt-ltb, le-ltb}
-use lib.Dec.{eqb, ltb}
+use lib.Dec.{ltb}
 use lib.ListN.{length}
-use Rattle.definition.specs.Refusal.{WELL, REACH, first_of}
-use Rattle.definition.proofs.Refusals.{none_exactly}
+use Rattle.std.specs.Prelude.{Option, None, Some}
+use Rattle.std.specs.Option.{ok_or}
+use Rattle.definition.specs.Refusal.{WELL, REACH, pick, first_of}
+use Rattle.definition.proofs.Refusals.{none_exactly, not_done}
+use Rattle.refusals.specs.declared.Refusal.TheVariants.{Well}
+use Rattle.refusals.specs.Number.{number_of}
+use Rattle.refusals.proofs.Judged.{passed}
 use Rattle.sheet_definition.specs.Refusals.{sheet_refusal}
+use Rattle.plan_definition.specs.Some.{some}
 use Rattle.plan_definition.specs.Well.{wells}
-use Rattle.plan_definition.proofs.Exactly.{not_less, not_equal, not_fails, neither}
+use Rattle.plan_definition.specs.Rules.{has_number}
+use Rattle.plan_definition.proofs.Exactly.{not_less, not_fails, neither}
 use Rattle.plan_definition.proofs.Given.{none_holds, last_fails}
 use Rattle.plan_definition.proofs.Tested.{sound_tested}
-use Rattle.reach.specs.Front.{front_refusals}
-use Rattle.reach.specs.Level.{Searched}
+use Rattle.reach_definition.specs.Reach.{ReachOutcome, reach_refusals, reach_outcome}
+use Rattle.reach_definition.proofs.Outcomes.{given}
+use Rattle.reach.specs.Front.{front_refusals, well_refusals}
+use Rattle.reach.specs.Level.{Searched, Found}
 
 -- there are records, and they make sense
 pub searched : (sheet : List ℕ) (n hops : ℕ) → first_of (front_refusals sheet n hops) ≡ 0 → Searched sheet n
@@ -27,17 +34,24 @@ searched sheet n hops e =
     (none_holds (not_less 3 hops) (last_fails (not_fails (sound_tested (wells n sheet)))))).0 ((none_exactly _ (omega arith)).0 e) in
     record { room = s.0.1; sound = s.1.1 }
 
-module _ (place n : ℕ) where
-  -- a place that may be n is n exactly where it isn't below
-  pub absent_test : place ≤ n → eqb place n ≡ not (ltb place n)
-  absent_test h =
-      elim (ℕ_discrete place n) [
-        | yes e ↦ rw (eq-eqb place n e, le-ltb place n (omega arith))
-        | no e ↦ rw (ne_eqb place n e, lt-ltb place n (omega arith))
-      ]
+-- what is judged of the well that was looked for
+pub looked_for : (sheet : List ℕ) (n k : ℕ) (o : Option ℕ) → Found sheet n k o
+    → number_of (ok_or o Well) ≡ first_of ((WELL, not (some (has_number k) (wells n sheet))) ∷ [])
+unfolding first_of pick
+looked_for sheet n k None e = rw e
+looked_for sheet n k (Some place) f = rw f.there
 
-  pub found : first_of ((WELL, eqb place n) ∷ []) ≡ 0 → place ≡ n → ⊥
-  found e = (last_fails (not_equal place n)).0 ((none_exactly _ (omega arith)).0 e)
+pub roomy : (reached n : ℕ) → 0 ≡ first_of ((REACH, ltb reached n) ∷ []) → n ≤ reached
+roomy reached n e = (last_fails (not_less reached n)).0 ((none_exactly _ (omega arith)).0 (sym e))
 
-  pub roomy : first_of ((REACH, ltb place n) ∷ []) ≡ 0 → n ≤ place
-  roomy e = (last_fails (not_less place n)).0 ((none_exactly _ (omega arith)).0 e)
+module _ (sheet : List ℕ) (n k hops : ℕ) (reached : List ℕ) where
+  -- past the refusals before the well those on it decide
+  pub on_the_well : 0 ≡ first_of (front_refusals sheet n hops) → given sheet n k hops reached ≡ first_of (well_refusals sheet n k (length reached))
+  unfolding reach_refusals sheet_refusal
+  on_the_well e = passed (front_refusals sheet n hops) (well_refusals sheet n k (length reached)) (omega arith) e
+
+  -- a refused call leaves the bytes
+  pub bytes_left : (number : ℕ) → number ≡ given sheet n k hops reached → (number ≡ 0 → ⊥)
+      → ◌≡◌ {A = ReachOutcome} (record { number = number; reached = reached }) (reach_outcome sheet n k hops reached)
+  unfolding reach_outcome
+  bytes_left number e d = rw (← e) (sym (not_done number _ _ d))

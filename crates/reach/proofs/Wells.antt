@@ -2,15 +2,17 @@
 -- Assumes nothing.
 use mathlib.Core.Path.{◌≡◌, refl, sym, ◌∙◌}
 use mathlib.Core.Logic.{◌⊎◌, ⊎_elim}
-use mathlib.Core.Bool.{Bool, true, false, not}
+use mathlib.Core.Bool.{Bool, true, false, not, ◌||◌}
 use mathlib.Core.List.{List}
 use Prim.Native.Nat.{ℕ, ◌<◌, ◌≤◌}
 use native.Mathlib.Omega.{arith}
 use borrow.Author.Tests.{eqb-true}
 use lib.Dec.{eqb}
+use Rattle.std.specs.List.{list_any}
+use Rattle.std.proofs.lemmas.List.Recursion.{same_from_clauses}
 use Rattle.definition.proofs.Conditions.{both_true}
 use Rattle.plan_definition.specs.declared.Well.{Well}
-use Rattle.plan_definition.specs.Some.{Among}
+use Rattle.plan_definition.specs.Some.{some, Among}
 use Rattle.plan_definition.specs.Well.{wells}
 use Rattle.plan_definition.specs.Rules.{struck, has_number}
 use Rattle.plan_definition.specs.Sound.{KeepsKind, KeepsLinkCount, Sound}
@@ -20,6 +22,11 @@ use Rattle.plan_definition.proofs.Places.{well_at, wells_at}
 use Rattle.plan_record.specs.Total.{well_in}
 use Rattle.plan_record.proofs.Total.{well_read}
 use Rattle.reach.specs.Level.{Searched}
+
+-- whether one passes, in the library's word
+pub any_is : {A : Type 0} (f : A → Bool) (l : List A) → some f l ≡ list_any f l
+unfolding some
+any_is f = same_from_clauses (some f) (list_any f) (λ a b. f a || b) refl (λ _ _. refl) (λ _ _. refl)
 
 -- a well that has a number other than 0 isn't struck
 pub numbered : (k : ℕ) (w : Well) → (k ≡ 0 → ⊥) → has_number k w ≡ eqb w.number k

@@ -1,5 +1,5 @@
 -- What holds of a search between two hops.
-use Rattle.std.specs.Prelude.{ℕ, suc, ◌+◌, ◌*◌, ◌<◌, ◌≤◌, ◌≡◌, ◌↔◌, ◌⊎◌, Bool, true, false, List, ltb, length, get_or}
+use Rattle.std.specs.Prelude.{ℕ, suc, ◌+◌, ◌*◌, ◌<◌, ◌≤◌, ◌≡◌, ◌↔◌, ◌⊎◌, Bool, true, false, List, Option, None, Some, length, get_or}
 use Rattle.plan_definition.specs.declared.Well.{Well}
 use Rattle.plan_definition.specs.Some.{some, Among}
 use Rattle.plan_definition.specs.Well.{wells}
@@ -14,12 +14,16 @@ pub record Searched (sheet : List ℕ) (n : ℕ) : Type 0 where
   pub room : 40 * n ≤ length sheet
   pub sound : Sound (wells n sheet)
 
--- where the well of a number stands: below n exactly if there is one
+-- where the well of a number stands, if there is one
 pub record FoundAt (sheet : List ℕ) (n number place : ℕ) : Type 0 where
-  pub within : place ≤ n
-  pub there : ltb place n ≡ some (has_number number) (wells n sheet)
-  pub stands-there : place < n → struck (well_in sheet place) ≡ false
-  pub number-there : place < n → (well_in sheet place).number ≡ number
+  pub within : place < n
+  pub there : some (has_number number) (wells n sheet) ≡ true
+  pub stands-there : struck (well_in sheet place) ≡ false
+  pub number-there : (well_in sheet place).number ≡ number
+
+abbrev pub Found : (sheet : List ℕ) → (n number : ℕ) → Option ℕ → Type 0
+Found sheet n k None = some (has_number k) (wells n sheet) ≡ false
+Found sheet n k (Some place) = FoundAt sheet n k place
 
 -- a producer that so many hops join to a well, and that an injector of a number is
 abbrev pub JoinedProducer : List Well → (hops : ℕ) → (from w : Well) → Type 0

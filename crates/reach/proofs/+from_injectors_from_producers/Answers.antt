@@ -8,11 +8,11 @@ from_injectors-returns-then-hops-eq0 t c = no_hop 2 _ _ _ _ c.if-hops-eq0.true
 
 pub from_injectors-returns : goal.from_injectors-returns
 from_injectors-returns t c =
-    injectors-on _ c.requires.0.sound _ c.if-hops-eq0.false _ _ _ _ _ c.mark.ensures c.from_producers.ensures
+    injectors-on _ c.requires.sound _ c.if-hops-eq0.false _ _ _ _ _ c.mark.ensures (rw c.mark.auto.reached at c.from_producers.ensures)
 
 pub from_producers-returns-then-hops-eq0 : goal.from_producers-returns-then-hops-eq0
 from_producers-returns-then-hops-eq0 t c = no_hop 1 _ _ _ _ c.if-hops-eq0.true
 
 pub from_producers-returns : goal.from_producers-returns
 from_producers-returns t c =
-    producers-on _ c.requires.0.sound _ c.if-hops-eq0.false _ _ _ _ _ c.take_linked.ensures c.from_injectors.ensures
+    producers-on _ c.requires.sound _ c.if-hops-eq0.false _ _ _ _ _ c.take_linked.ensures c.from_injectors.ensures

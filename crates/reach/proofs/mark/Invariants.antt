@@ -1,9 +1,7 @@
 -- The invariants of `reach::mark`.
-use mathlib.Core.Path.{◌≡◌}
 use mathlib.Core.Bool.{Bool}
 use mathlib.Core.List.{List}
-use Prim.Native.Nat.{ℕ, ◌-◌, ◌≤◌}
-use lib.ListN.{length}
+use Prim.Native.Nat.{ℕ}
 use Rattle.plan_definition.proofs.Places.{well_at}
 use Rattle.plan_numbers.specs.Numbers.{has}
 use Rattle.reach.specs.Sets.{touches}
@@ -14,9 +12,6 @@ use Rattle.reach.proofs.mark.Given as goal
 abbrev pub test : (sheet taken : List ℕ) → (kind : ℕ) → ℕ → Bool
 test sheet taken kind q = touches (has taken) kind (well_at q sheet)
 
+-- the bytes passed are marked where the set touches their wells
 abbrev pub invariant-loop-i : goal.invariant-loop-i
-invariant-loop-i l =
-    (l.i ≤ l.n) × (length l.reached ≡ length l.initial.reached) × Upto (test l.sheet l.taken l.kind) l.i l.initial.reached l.reached
-
-abbrev pub decreases-loop-i : goal.decreases-loop-i
-decreases-loop-i l = l.n - l.i
+invariant-loop-i l = Upto (test l.sheet l.taken l.kind) l.i l.initial.reached l.reached
