@@ -73,21 +73,21 @@ module _ {sheet : List ℕ} {n : ℕ} (s : Searched sheet n) where
     }
 
     -- so many hops on from either
-    pub producer-search : from.kind ≡ 1 → (z : List ℕ) → z ≡ replicate n 0 → (hops : ℕ) (r t : List ℕ)
-        → Onward 1 (wells n sheet) hops (set z place 1) (replicate 1024 0) r t → Level (wells n sheet) from hops r (has t)
+    pub producer-search : from.kind ≡ 1 → (z : List ℕ) → z ≡ replicate n 0 → (hops m : ℕ) (r t : List ℕ) → m ≡ n
+        → Onward 1 (wells m sheet) hops (set z place 1) (replicate 1024 0) r t → Level (wells n sheet) from hops r (has t)
     unfolding Onward
-    producer-search e z f hops r t on =
+    producer-search e z f hops m r t long on =
         let ws = wells n sheet in
-        let o : Onward 1 ws hops bytes (replicate 1024 0) r t = rw f at on in
+        let o : Onward 1 ws hops bytes (replicate 1024 0) r t = rw (long, f) at on in
         let y : 0 + hops ≡ hops = omega arith in
         rw y at (o from 0 (at_among s h) (producer-start e) (first_turn ws from to_producers (λ d. omega arith) e))
 
     pub injector-search : from.kind ≡ 2 → (z : List ℕ) → z ≡ replicate n 0 → (u : List ℕ) → has u ≡ plus from.number (has (replicate 1024 0))
-        → (hops : ℕ) (r t : List ℕ) → Onward 2 (wells n sheet) hops z u r t → Level (wells n sheet) from hops r (has t)
+        → (hops m : ℕ) (r t : List ℕ) → m ≡ n → Onward 2 (wells m sheet) hops z u r t → Level (wells n sheet) from hops r (has t)
     unfolding Onward
-    injector-search e z f u g hops r t on =
+    injector-search e z f u g hops m r t long on =
         let ws = wells n sheet in
-        let o : Onward 2 ws hops (replicate n 0) u r t = rw f at on in
+        let o : Onward 2 ws hops (replicate n 0) u r t = rw (long, f) at on in
         let y : 0 + hops ≡ hops = omega arith in
         rw y at (o from 0 (at_among s h) (injector-start e u g) (first_turn ws from to_injectors (λ d. omega arith) e))
 

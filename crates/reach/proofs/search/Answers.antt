@@ -38,10 +38,11 @@ level c =
     let kind = ap (λ (w : Well). w.kind) (the_well c) in
     elim c.if-w-eq-PRODUCER.branch [
       | then-w-eq-PRODUCER t ↦ rw (t.reached-is, t.taken-is)
-          (producer-search c.requires.0 a.place c.requires.1 (sym kind ∙ t.if-w-eq-PRODUCER.true) c.fill.new.self (zeros c) a.hops _ _ (rw (length-set c.fill.new.self a.place 1, c.fill.auto.self) at t.from_producers.ensures))
+          (producer-search c.requires.0 a.place c.requires.1 (sym kind ∙ t.if-w-eq-PRODUCER.true) c.fill.new.self (zeros c) a.hops _ _ _
+          (length-set c.fill.new.self a.place 1 ∙ c.fill.auto.self) t.from_producers.ensures)
       | else-w-eq-PRODUCER t ↦ rw (t.reached-is, t.taken-is)
           (injector-search c.requires.0 a.place c.requires.1 (other (either_kind c.requires.0.sound (at_among c.requires.0 c.requires.1) (stands c)) (λ e. t.if-w-eq-PRODUCER.false (kind ∙ e)))
-          c.fill.new.self (zeros c) _ (rw (the_well c) at t.put.ensures) a.hops _ _ (rw c.fill.auto.self at t.from_injectors.ensures))
+          c.fill.new.self (zeros c) _ (rw (the_well c) at t.put.ensures) a.hops _ _ _ c.fill.auto.self t.from_injectors.ensures)
     ]
   where
     other : {k : ℕ} → (k ≡ 1) ⊎ (k ≡ 2) → (k ≡ 1 → ⊥) → k ≡ 2
