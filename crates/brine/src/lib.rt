@@ -71,9 +71,6 @@ pub fn statement(
 {
     match judge(sheets.len(), counts, intake.len(), spare.len()) {
         Ok(()) => sheet_after_sheet(sheets, counts, intake, spare),
-        Err(refusal) => Statement {
-            number: u64::from(u32::from(refusal)),
-            ..Statement::default()
-        },
+        Err(refusal) => brine_sheet::refused(refusal),
     }
 }

@@ -3,13 +3,13 @@
 
 ghost use Rattle.std.specs.Prelude.{◌≡◌, true, [], ◌∷◌, ◌*◌, ◌≤◌, pos, length, replicate};
 ghost use Rattle.definition.specs.Refusal.{first_of};
-ghost use Rattle.refusals.specs.Number.{number_of};
+ghost use Rattle.refusals.specs.Number.{number, number_of};
 ghost use Rattle.plan_definition.specs.Well.{wells};
 ghost use Rattle.plan_definition.specs.Rules.{injector};
 ghost use Rattle.plan_definition.specs.Check.{sound};
 ghost use Rattle.brine_definition.specs.Count.{sum};
 ghost use Rattle.brine_definition.specs.Page.{spare_of, row_when, rows};
-ghost use Rattle.brine_definition.specs.Statement.{intakes, spares, below_zero, statement_of, list_refusal, brine_refusals, brine_outcome};
+ghost use Rattle.brine_definition.specs.Statement.{intakes, spares, below_zero, statement_of, refused_by, list_refusal, brine_refusals, brine_outcome};
 ghost use Rattle.plan_places.specs.Places.{placed};
 ghost use Rattle.brine_sheet.specs.Stated.{Stated};
 ghost use Rattle.brine_sheet.specs.Table.{placed_if, table_after};
@@ -52,7 +52,9 @@ fn spare_of(w: Well, intake: u64) -> i64
     if w.kind != INJECTOR {
         return 0;
     }
-    (KILOGRAMS * u64::from(w.rate)) as i64 - intake as i64
+    // Document 01 names the form: a negation and a difference of bounded products.
+    let excess = intake as i64 - (KILOGRAMS * u64::from(w.rate)) as i64;
+    -excess
 }
 
 // The spares of a sound sheet's records, whose intakes are there already, and its part of the answer.
@@ -124,6 +126,16 @@ fn judged(sheet: usize, n: usize, intake: usize, spare: usize) -> Result<(), Ref
     listed(intake, spare, n)
 }
 
+// The answer of a refused call: its number and four zeros.
+pub fn refused(refusal: Refusal) -> Statement
+    ensures { result ≡ refused_by (number refusal) }
+{
+    Statement {
+        number: u64::from(u32::from(refusal)),
+        ..Statement::default()
+    }
+}
+
 // The brine statement over a batch of this sheet alone. The table is lent so that a batch has one for all its sheets;
 // what it holds before doesn't matter.
 pub fn statement(
@@ -137,9 +149,6 @@ pub fn statement(
 {
     match judged(sheet.len(), n, intake.len(), spare.len()) {
         Ok(()) => page(sheet, n, places, &mut intake[..n], &mut spare[..n]),
-        Err(refusal) => Statement {
-            number: u64::from(u32::from(refusal)),
-            ..Statement::default()
-        },
+        Err(refusal) => refused(refusal),
     }
 }
