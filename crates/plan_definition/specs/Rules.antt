@@ -1,5 +1,5 @@
 -- The rules of a sheet that makes sense, as tests: document 02, Q-1. Each says when a well breaks it; `logic_at` has them in the request's order.
-use Rattle.std.specs.Prelude.{ℕ, ◌+◌, Bool, true, false, not, ◌&&◌, ◌||◌, List, [], ◌∷◌, leb, ltb, eqb, take, drop}
+use Rattle.std.specs.Prelude.{ℕ, ◌+◌, Option, None, Some, Bool, true, false, not, ◌&&◌, ◌||◌, List, [], ◌∷◌, leb, ltb, eqb, take, drop}
 use Rattle.definition.specs.Refusal.{Refusal, pick}
 use Rattle.plan_definition.specs.declared.Link.{Link}
 use Rattle.plan_definition.specs.declared.Well.{Well}
@@ -103,6 +103,11 @@ rule_number Links = 5
 rule_number Shares = 6
 rule_number UnusedLinks = 7
 rule_number Repeat = 8
+
+-- and of the first that is broken, where none is 0
+abbrev pub number_of : Option Rule → ℕ
+number_of None = 0
+number_of (Some rule) = rule_number rule
 
 -- "in this order: number, kind, link count, rate, links, shares, unused links, repeat", read as refusals are; what a rule must know of the
 -- other wells is handed over

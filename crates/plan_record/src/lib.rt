@@ -2,8 +2,8 @@
 #![tactic(auto)]
 
 ghost use Rattle.std.specs.Prelude.{◌≡◌, ◌+◌, ◌≤◌, length};
-ghost use Rattle.plan_definition.specs.Well.{two as two_at, no_link, link_at, well_of};
-ghost use Rattle.plan_record.specs.Total.{no_well, well_in};
+ghost use Rattle.plan_definition.specs.Well.{two as two_at, four as four_at, link_at, well_of};
+ghost use Rattle.plan_record.specs.Total.{well_in};
 
 use plan_definition::{Link, Well};
 use sheet_definition::RECORD;
@@ -24,9 +24,15 @@ fn two(t: &[u8], i: usize) -> u16
     requires { i + 2 ≤ length t.now }
     ensures { result ≡ two_at t.now i }
 {
-    let high = t[i] as u16;
-    let low = t[i + 1] as u16;
-    256 * high + low
+    u16::from_be_bytes([t[i], t[i + 1]])
+}
+
+// Four bytes from byte i on, the same way.
+fn four(t: &[u8], i: usize) -> u32
+    requires { i + 4 ≤ length t.now }
+    ensures { result ≡ four_at t.now i }
+{
+    u32::from_be_bytes([t[i], t[i + 1], t[i + 2], t[i + 3]])
 }
 
 fn link(t: &[u8], i: usize) -> Link
@@ -44,11 +50,13 @@ pub fn read(sheet: &[u8], place: usize) -> Well
     ensures { result ≡ well_in sheet.now place }
 {
     if sheet.len() / RECORD <= place {
-        return no_well(place);
+        return Well {
+            place,
+            ..Well::default()
+        };
     }
     let at = RECORD * place;
-    let end = at + RECORD;
-    well(&sheet[at..end], place)
+    well(&sheet[at..at + RECORD], place)
 }
 
 // The first bytes of a slice as the record at a place.
@@ -61,7 +69,7 @@ fn well(t: &[u8], place: usize) -> Well
         number: two(t, 0),
         kind: t[KIND_AT],
         count: t[COUNT_AT],
-        rate: 65536 * (two(t, RATE_AT) as u32) + (two(t, RATE_AT + 2) as u32),
+        rate: four(t, RATE_AT),
         links: [
             link(t, LINKS_AT),
             link(t, LINKS_AT + 4),
@@ -69,28 +77,5 @@ fn well(t: &[u8], place: usize) -> Well
             link(t, LINKS_AT + 12),
         ],
         noted: !sheet_struck::zeros(&t[NOTE_AT..]),
-    }
-}
-
-fn no_link() -> Link
-    ensures { result ≡ no_link }
-{
-    Link {
-        injector: 0,
-        share: 0,
-    }
-}
-
-fn no_well(place: usize) -> Well
-    ensures { result ≡ no_well place }
-{
-    Well {
-        place,
-        number: 0,
-        kind: 0,
-        count: 0,
-        rate: 0,
-        links: [no_link(); 4],
-        noted: false,
     }
 }

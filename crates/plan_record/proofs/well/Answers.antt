@@ -1,20 +1,15 @@
 -- `plan_record::well` meets its contract: its parts, where they lie in the record.
 -- Assumes nothing.
-use mathlib.Core.Path.{◌≡◌, ap, ap₂, ◌∙◌}
+use mathlib.Core.Path.{◌≡◌, ap, ◌∙◌}
 use mathlib.Core.Bool.{not}
 use mathlib.Core.List.{[], ◌∷◌}
-use Prim.Native.Nat.{ℕ, ◌+◌, ◌-◌, ◌*◌}
+use Prim.Native.Nat.{◌-◌}
 use native.Mathlib.Omega.{arith}
 use lib.ListN.{length, get_or, drop, length-drop}
 use lib.Seq.{take_all}
 use Rattle.sheet_definition.specs.Struck.{all_zero}
-use Rattle.plan_definition.specs.Well.{four, well_of}
+use Rattle.plan_definition.specs.Well.{well_of}
 use Rattle.plan_record.proofs.well.Goals as goal
-
--- four bytes are twice two
-rate : (c : goal.After-zeros) → 65536 * c.two-2.result + c.two-3.result ≡ four c.args.t.now 4
-unfolding four
-rate c = ap₂ (λ (x y : ℕ). 65536 * x + y) c.two-2.ensures c.two-3.ensures
 
 -- the note is what is left of it
 note : (c : goal.After-zeros) → c.zeros.result ≡ all_zero (drop 24 c.args.t.now)
@@ -31,7 +26,7 @@ returns c =
       number = c.two.ensures i;
       kind = get_or a.t.now 2 0;
       count = get_or a.t.now 3 0;
-      rate = rate c i;
+      rate = c.four.ensures i;
       links = c.link.ensures i ∷ c.link-2.ensures i ∷ c.link-3.ensures i ∷ c.link-4.ensures i ∷ [];
       noted = not (note c i);
     }
