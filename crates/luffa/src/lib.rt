@@ -323,7 +323,7 @@ pub fn luffa_sheet_mend(code: usize, sheet: &[u8], n: usize, marks: &mut [u32]) 
 pub fn luffa_plan_check(sheet: &[u8], n: usize) -> ContentAnswer
     ensures { result ≡ answer_of (verdict sheet.now n) }
 {
-    plan::answer(plan::check(sheet, n))
+    ContentAnswer::from(plan::check(sheet, n))
 }
 
 // The brine statement over a batch of sheets.

@@ -1,12 +1,13 @@
 -- A test of a list: some element passes it exactly when there is one among them that does, and none exactly when each fails.
 -- Assumes nothing.
-use mathlib.Core.Path.{◌≡◌, refl, sym, ◌∙◌}
+use mathlib.Core.Path.{◌≡◌, refl, sym, ap, ◌∙◌}
 use mathlib.Core.Logic.{◌↔◌}
 use mathlib.Core.Bool.{Bool, true, false, ◌||◌, false≢true}
 use mathlib.Core.List.{List, [], ◌∷◌}
 use Prim.Native.Nat.{ℕ, zero, suc, ◌<◌}
 use native.Mathlib.Omega.{arith}
 use lib.ListN.{length, get_or}
+use Rattle.std.specs.List.{list_any}
 use Rattle.definition.proofs.Conditions.{either_false, other_way}
 use Rattle.plan_definition.specs.Some.{some, Among}
 use Rattle.plan_definition.specs.Some.Among.{here, later}
@@ -59,3 +60,9 @@ module _ {A : Type 0} where
     -- some passes exactly when there is one among them that does
     pub some_true : (l : List A) → (some f l ≡ true) ↔ ((a : A) × Among a l × (f a ≡ true))
     some_true l = (found l, λ p. (other_way (some f l) (some_false l)).1 (λ h. false≢true (sym (h p.0 p.1) ∙ p.2)))
+
+    -- the library's word for it
+    pub listed : (l : List A) → list_any f l ≡ some f l
+    unfolding some
+    listed [] = refl
+    listed (a ∷ l) = ap (λ b. f a || b) (listed l)

@@ -14,7 +14,7 @@ pub const LINKS_MOST: u8 = 4;
 
 pub const RATE_MOST: u32 = 100000;
 
-pub const SHARES_TOTAL: u64 = 1000;
+pub const SHARES_TOTAL: u16 = 1000;
 
 // A link: the number of the injector that it names, and its share in thousandths.
 #[derive(Clone, Copy, Debug, Default, PartialEq, Eq)]

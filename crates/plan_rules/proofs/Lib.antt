@@ -1,3 +1,2 @@
 -- Laws that several of this crate's proofs use.
-pub mod Links
 pub mod Shape

@@ -5,4 +5,4 @@ use Rattle.plan_definition.specs.Check.{answer_of}
 use Rattle.luffa.proofs.luffa_plan_check.Goals as goal
 
 pub returns : goal.returns
-returns c = c.answer.ensures ∙ ap answer_of c.check.ensures
+returns c = c.from.ensures ∙ ap answer_of c.check.ensures

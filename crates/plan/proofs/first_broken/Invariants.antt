@@ -1,6 +1,6 @@
 -- The invariants of `plan::first_broken`.
 use mathlib.Core.Path.{◌≡◌}
-use Prim.Native.Nat.{ℕ, ◌-◌, ◌≤◌}
+use Prim.Native.Nat.{ℕ}
 use Rattle.plan_definition.specs.Well.{wells}
 use Rattle.plan_definition.specs.Rules.{is_before}
 use Rattle.plan_definition.specs.Check.{first_fault}
@@ -10,9 +10,5 @@ use Rattle.plan.proofs.first_broken.Given as goal
 
 abbrev pub invariant-loop-i : goal.invariant-loop-i
 invariant-loop-i l =
-    (l.i ≤ l.n)
-    × ((k : ℕ) → has l.seen k ≡ is_before (wells l.n l.sheet) l.i k)
+    ((k : ℕ) → has l.seen k ≡ is_before (wells l.n l.sheet) l.i k)
     × (first_fault (wells l.n l.sheet) (left l.i l.n l.sheet) ≡ first_fault (wells l.n l.sheet) (wells l.n l.sheet))
-
-abbrev pub decreases-loop-i : goal.decreases-loop-i
-decreases-loop-i l = l.n - l.i

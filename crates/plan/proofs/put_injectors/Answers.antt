@@ -19,7 +19,7 @@ use Rattle.plan.proofs.put_injectors.Goals as goal
 use Rattle.plan.proofs.put_injectors.Goals.{then-w-eq-INJECTOR, else-w-eq-INJECTOR}
 
 pub loop-i-init : goal.loop-i-init
-loop-i-init c = (omega arith, λ k. rw (left_all c.args.n c.args.sheet.now))
+loop-i-init c = λ k. rw (left_all c.args.n c.args.sheet.now)
 
 -- the well that is read is the one at the place
 read : (c : goal.Joined-w-eq-INJECTOR) → c.read-w.result ≡ well_at c.loop-i.i c.args.sheet.now
@@ -34,7 +34,7 @@ step : (c : goal.Joined-w-eq-INJECTOR) (k : ℕ) →
 step c k =
     let l = c.loop-i in
     let a = c.args in
-    rw (read c) (rw (left_step a.n a.sheet.now l.i (omega arith)) at (l.invariant.1 k))
+    rw (read c) (rw (left_step a.n a.sheet.now l.i (omega arith)) at (l.invariant k))
 
 pub loop-i-preserved : goal.loop-i-preserved
 unfolding injector
@@ -43,13 +43,11 @@ loop-i-preserved c =
     let i = c.loop-i.i in
     let ws = left (suc i) a.n a.sheet.now in
     let w = c.read-w.result in
-    let t = c.loop-i.t in (
-      omega arith,
-      λ k. rw (add-one i) (elim c.if-w-eq-INJECTOR.branch [
-        | then-w-eq-INJECTOR s ↦ with_injector w ws t k c.if-w-eq-INJECTOR.t (eq-eqb w.kind 2 (omega (arith, s.if-w-eq-INJECTOR.true))) (rw s.t-is s.put.ensures) ∙ step c k
-        | else-w-eq-INJECTOR s ↦ rw s.t-is (with_other w ws t k (ne_eqb w.kind 2 (λ e. omega (arith, s.if-w-eq-INJECTOR.false))) ∙ step c k)
-      ]),
-    )
+    let t = c.loop-i.t in
+    λ k. rw (add-one i) (elim c.if-w-eq-INJECTOR.branch [
+      | then-w-eq-INJECTOR s ↦ with_injector w ws t k c.if-w-eq-INJECTOR.t (eq-eqb w.kind 2 (omega (arith, s.if-w-eq-INJECTOR.true))) (rw s.t-is s.put.ensures) ∙ step c k
+      | else-w-eq-INJECTOR s ↦ rw s.t-is (with_other w ws t k (ne_eqb w.kind 2 (λ e. omega (arith, s.if-w-eq-INJECTOR.false))) ∙ step c k)
+    ])
 
 pub returns : goal.returns
 unfolding plus_injectors is_injector_of some
@@ -57,4 +55,4 @@ returns c =
     let l = c.loop-i in
     let a = c.args in
     let e : l.i ≡ a.n = omega arith in
-    fun_ext (λ k. rw (left_none a.n a.sheet.now) at (rw e at (l.invariant.1 k)))
+    fun_ext (λ k. rw (left_none a.n a.sheet.now) at (rw e at (l.invariant k)))

@@ -1,7 +1,7 @@
 -- The invariants of `plan::put_injectors`.
 use mathlib.Core.Path.{◌≡◌}
 use mathlib.Core.Bool.{◌||◌}
-use Prim.Native.Nat.{ℕ, ◌-◌, ◌≤◌}
+use Prim.Native.Nat.{ℕ}
 use Rattle.plan_definition.specs.Rules.{is_injector_of}
 use Rattle.plan_definition.specs.Well.{wells}
 use Rattle.plan_definition.proofs.Places.{left}
@@ -9,8 +9,4 @@ use Rattle.plan_numbers.specs.Numbers.{has}
 use Rattle.plan.proofs.put_injectors.Given as goal
 
 abbrev pub invariant-loop-i : goal.invariant-loop-i
-invariant-loop-i l =
-    (l.i ≤ l.n) × ((k : ℕ) → (is_injector_of (left l.i l.n l.sheet) k || has l.t k) ≡ (is_injector_of (wells l.n l.sheet) k || has l.initial.t k))
-
-abbrev pub decreases-loop-i : goal.decreases-loop-i
-decreases-loop-i l = l.n - l.i
+invariant-loop-i l = (k : ℕ) → (is_injector_of (left l.i l.n l.sheet) k || has l.t k) ≡ (is_injector_of (wells l.n l.sheet) k || has l.initial.t k)

@@ -1,24 +1,13 @@
 -- `plan_record::read` meets its contract, with a whole record at the place and without.
 -- Assumes nothing.
 use mathlib.Core.Path.{◌≡◌, sym, ◌∙◌}
-use mathlib.Core.List.{List}
 use Prim.Native.Nat.{◌+◌, ◌-◌, ◌*◌, ◌<◌, ◌≤◌}
 use native.Mathlib.Omega.{arith}
-use lib.ListN.{length, replicate}
-use Rattle.std.specs.Array.{AllOfLen}
-use Rattle.std.proofs.lemmas.List.{ext_get_or, get_or-replicate}
-use Rattle.plan_definition.specs.declared.Link.{Link}
-use Rattle.plan_definition.specs.Well.{no_link}
+use lib.ListN.{length}
+use Rattle.plan_definition.proofs.Links.{no_links}
 use Rattle.plan_record.specs.Total.{no_well}
 use Rattle.plan_record.proofs.Total.{well_read, none_read}
 use Rattle.plan_record.proofs.read.Goals as goal
-
--- the links of a default are four of zeros
-no_links : (ls : List Link) → AllOfLen (λ l. (l.injector ≡ 0) × (l.share ≡ 0)) ls 4 → ls ≡ replicate 4 no_link
-no_links ls h =
-    ext_get_or no_link ls (replicate 4 no_link) h.long (λ i g.
-        let e = h.at i no_link (omega arith) in
-        (λ j. record { injector = e.0 j; share = e.1 j }) ∙ sym (get_or-replicate 4 i no_link no_link (omega arith)))
 
 pub returns-then-sheet-place : goal.returns-then-sheet-place
 unfolding no_well

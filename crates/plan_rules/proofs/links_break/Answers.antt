@@ -1,67 +1,60 @@
 -- `plan_rules::links_break` meets its contract. The loop's invariant: what is left decides.
 -- Assumes nothing.
-use mathlib.Core.Path.{◌≡◌, refl, sym, ◌∙◌}
-use mathlib.Core.Bool.{Bool, true, not, ◌||◌}
+use mathlib.Core.Path.{◌≡◌, refl, sym, ap, ◌∙◌}
+use mathlib.Core.Bool.{Bool, not, ◌||◌}
 use mathlib.Core.List.{List}
-use Prim.Native.Nat.{ℕ, suc, ◌+◌, ◌<◌, ◌≤◌}
+use Prim.Native.Nat.{ℕ, ◌+◌, ◌-◌, ◌<◌}
 use native.Mathlib.Numerals.{add-one}
 use native.Mathlib.Omega.{arith}
-use borrow.Author.Rules.{rules}
-use lib.ListN.{length, get_or}
-use lib.Seq.{slice}
+use lib.ListN.{length, get_or, take, drop, length-drop, drop_of_length-le}
+use lib.Seq.{take_all, drop-cons}
+use Rattle.std.specs.List.{list_any}
+use lib.Dec.{eqb}
 use Rattle.plan_definition.specs.declared.Link.{Link}
-use Rattle.plan_definition.specs.Some.{some}
 use Rattle.plan_definition.specs.Well.{no_link}
 use Rattle.plan_definition.specs.Rules.{names_same, misnamed}
-use Rattle.plan_definition.proofs.Links.{none_left}
+use Rattle.plan_definition.proofs.Some.{listed}
 use Rattle.plan_numbers.specs.Numbers.{has}
-use Rattle.plan_rules.proofs.Links.{misnamed_left}
 use Rattle.plan_rules.proofs.links_break.Goals as goal
+use Rattle.plan_rules.proofs.links_break.Goals.{then-not-has-via-then-not-has, then-not-has-via-else-not-has+then-named_again}
+
+-- the next link breaks the rule, or one after it does
+next : {h a b : Bool} (f : ℕ → Bool) (ls : List Link) (k : ℕ) → k < length ls
+    → let l = get_or ls k no_link in
+    h ≡ f l.injector
+    → a ≡ list_any (λ m. eqb m.injector l.injector) (take (length ls - (k + 1)) (drop (k + 1) ls))
+    → misnamed f (drop k ls) ≡ b
+    → (not h || a || misnamed f (drop (k + 1) ls)) ≡ b
+unfolding misnamed names_same
+next f ls k g h a e =
+    let l = get_or ls k no_link in
+    let all = take_all (length ls - (k + 1)) (drop (k + 1) ls) (omega (arith, length-drop (k + 1) ls)) in
+    (λ i. not (h i) || (a ∙ ap (list_any (names_same l)) all ∙ listed (names_same l) (drop (k + 1) ls)) i || misnamed f (drop (k + 1) ls))
+    ∙ sym (rw (add-one k) (ap (misnamed f) (drop-cons ls k no_link g))) ∙ e
 
 pub loop-k-init : goal.loop-k-init
-loop-k-init c = (omega arith, refl)
-
-module _ (f : ℕ → Bool) (k t : ℕ) (ls : List Link) (four : length ls ≡ 4) (h : k < t) (g : t ≤ 4) {b : Bool} (e : misnamed f (slice k t ls) ≡ b) where
-  -- the next link names no injector, or one after it names the same, or what is left is misnamed
-  left : let l = get_or ls k no_link in
-      not (f l.injector) || some (names_same l) (slice (suc k) t ls) || misnamed f (slice (suc k) t ls) ≡ b
-  left = sym (misnamed_left f k t ls h (rw four g)) ∙ e
-
-  -- where the link names an injector
-  named : {n : Bool} → let l = get_or ls k no_link in f l.injector ≡ true → n ≡ some (names_same l) (slice (k + 1) t ls)
-      → n || misnamed f (slice (suc k) t ls) ≡ b
-  named p q = rw (q, add-one k) (rw p at left)
+loop-k-init c = refl
 
 pub returns-then-not-has : goal.returns-then-not-has
+unfolding misnamed
 returns-then-not-has c =
     let a = c.args in
     let l = c.loop-k in
-    rw (sym c.has.ensures ∙ c.if-not-has.true)
-    at (left (has a.injectors.now) l.k a.count a.links (search rules) (omega arith) (omega arith) l.invariant.1)
-
-pub returns-then-named_again : goal.returns-then-named_again
-returns-then-named_again c =
-    let a = c.args in
-    let l = c.loop-k in
-    rw c.if-named_again.true at (named (has a.injectors.now) l.k a.count a.links (search rules) (omega arith) (omega arith) l.invariant.1
-    (sym c.has.ensures ∙ c.if-not-has.false) c.named_again.ensures)
+    elim c.then-not-has.branch [
+      | then-not-has-via-then-not-has w ↦
+          rw (w.if-not-has.true) at (next (has a.injectors.now) a.used.now l.k c.loop-k-test.true c.has.ensures refl l.invariant)
+      | then-not-has-via-else-not-has+then-named_again w ↦
+          rw (w.if-not-has.false, w.if-named_again.true) at (next (has a.injectors.now) a.used.now l.k c.loop-k-test.true c.has.ensures w.named_again.ensures l.invariant)
+    ]
 
 pub loop-k-preserved : goal.loop-k-preserved
 loop-k-preserved c =
     let a = c.args in
-    let l = c.loop-k in (
-      omega arith,
-      rw (add-one l.k) (rw c.if-named_again.false at (named (has a.injectors.now) l.k a.count a.links (search rules) (omega arith) (omega arith)
-          l.invariant.1 (sym c.has.ensures ∙ c.if-not-has.false) c.named_again.ensures)),
-    )
+    let l = c.loop-k in
+    rw (c.if-not-has.false, c.if-named_again.false)
+    at (next (has a.injectors.now) a.used.now l.k c.loop-k-test.true c.has.ensures c.named_again.ensures l.invariant)
 
 pub returns : goal.returns
 unfolding misnamed
 returns c =
-    let l = c.loop-k in
-    let a = c.args in
-    none_left (misnamed (has a.injectors.now)) l.k a.count a.links (omega arith) ∙ l.invariant.1
-
-pub named_again-requires : goal.named_again-requires
-named_again-requires c =
-    (omega arith, omega arith)
+    rw (drop_of_length-le c.args.used.now {i = c.loop-k.k} (omega arith)) at c.loop-k.invariant

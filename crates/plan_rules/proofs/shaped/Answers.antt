@@ -46,9 +46,9 @@ returns-then-w-gt-RATE_MOST c =
     sym (rate w c.if-w-eq0.false c.kind_breaks.ensures c.if-kind_breaks.false c.count_breaks.ensures c.if-count_breaks.false
     ∙ rw (lt-ltb 100000 w.rate (omega arith)))
 
-pub returns : goal.returns
+pub returns-else-w-gt-RATE_MOST : goal.returns-else-w-gt-RATE_MOST
 unfolding pick
-returns c =
+returns-else-w-gt-RATE_MOST c =
     let w = c.args.w in
     sym (rate w c.if-w-eq0.false c.kind_breaks.ensures c.if-kind_breaks.false c.count_breaks.ensures c.if-count_breaks.false
     ∙ rw (le-ltb 100000 w.rate (omega arith)))
