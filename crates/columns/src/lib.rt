@@ -7,9 +7,11 @@ ghost use Rattle.definition.specs.Block.{words_of, words_of_all, block_from};
 ghost use Rattle.definition.specs.Buffer.{overwrite_at};
 ghost use Rattle.definition.specs.Field.{element as element_of};
 ghost use Rattle.columns_definition.specs.Dump.{column, dump as dump_of, block_at, undump, blocks_of};
+ghost use Rattle.refusals.specs.Number.{number_of};
 ghost use Rattle.columns_definition.specs.Columns.{from_words_outcome, to_words_outcome, from_message_outcome};
 
 use definition::Block;
+use refusals::Refusal;
 
 // A block's byte at position l: bit k is bit l of word k.
 fn element(b: Block, l: usize) -> u8
@@ -120,7 +122,7 @@ pub fn from_words(code: usize, words: &[u32], dump: &mut [u8]) -> u32
     ensures { record { number = result; buffer = dump.new } ≡ from_words_outcome code words.now dump.old }
 {
     let n = blocks::count(codes::width(code));
-    let number = columns_judge::refusal(code, dump.len(), words.len(), 8 * n);
+    let number = refusals::number_of(columns_judge::refusal(code, dump.len(), words.len(), 8 * n));
     if number != refusals::DONE {
         return number;
     }
@@ -129,23 +131,20 @@ pub fn from_words(code: usize, words: &[u32], dump: &mut [u8]) -> u32
 }
 
 // A state's columns as words.
-pub fn to_words(code: usize, dump: &[u8], words: &mut [u32]) -> u32
-    ensures { record { number = result; buffer = words.new } ≡ to_words_outcome code dump.now words.old }
+pub fn to_words(code: usize, dump: &[u8], words: &mut [u32]) -> Result<(), Refusal>
+    ensures { record { number = number_of result; buffer = words.new } ≡ to_words_outcome code dump.now words.old }
 {
     let n = blocks::count(codes::width(code));
-    let number = columns_judge::refusal(code, dump.len(), words.len(), 8 * n);
-    if number != refusals::DONE {
-        return number;
-    }
+    columns_judge::refusal(code, dump.len(), words.len(), 8 * n)?;
     put_blocks(dump, n, words);
-    refusals::DONE
+    Ok(())
 }
 
 // A message block by columns.
 pub fn from_message(block: &[u8], dump: &mut [u8]) -> u32
     ensures { record { number = result; buffer = dump.new } ≡ from_message_outcome block.now dump.old }
 {
-    let number = columns_judge::lengths(block.len(), 32, dump.len(), 32);
+    let number = refusals::number_of(columns_judge::lengths(block.len(), 32, dump.len(), 32));
     if number != refusals::DONE {
         return number;
     }
