@@ -118,16 +118,13 @@ fn put_blocks(dump: &[u8], n: usize, words: &mut [u32])
 }
 
 // The words of a state by columns.
-pub fn from_words(code: usize, words: &[u32], dump: &mut [u8]) -> u32
-    ensures { record { number = result; buffer = dump.new } ≡ from_words_outcome code words.now dump.old }
+pub fn from_words(code: usize, words: &[u32], dump: &mut [u8]) -> Result<(), Refusal>
+    ensures { record { number = number_of result; buffer = dump.new } ≡ from_words_outcome code words.now dump.old }
 {
     let n = blocks::count(codes::width(code));
-    let number = refusals::number_of(columns_judge::refusal(code, dump.len(), words.len(), 8 * n));
-    if number != refusals::DONE {
-        return number;
-    }
+    columns_judge::refusal(code, dump.len(), words.len(), 8 * n)?;
     put_dump(words, n, dump);
-    refusals::DONE
+    Ok(())
 }
 
 // A state's columns as words.
@@ -141,15 +138,12 @@ pub fn to_words(code: usize, dump: &[u8], words: &mut [u32]) -> Result<(), Refus
 }
 
 // A message block by columns.
-pub fn from_message(block: &[u8], dump: &mut [u8]) -> u32
-    ensures { record { number = result; buffer = dump.new } ≡ from_message_outcome block.now dump.old }
+pub fn from_message(block: &[u8], dump: &mut [u8]) -> Result<(), Refusal>
+    ensures { record { number = number_of result; buffer = dump.new } ≡ from_message_outcome block.now dump.old }
 {
-    let number = refusals::number_of(columns_judge::lengths(block.len(), 32, dump.len(), 32));
-    if number != refusals::DONE {
-        return number;
-    }
+    columns_judge::lengths(block.len(), 32, dump.len(), 32)?;
     let b = octets::block(block);
     let words = [b.a0, b.a1, b.a2, b.a3, b.a4, b.a5, b.a6, b.a7];
     put_dump(&words, 1, dump);
-    refusals::DONE
+    Ok(())
 }

@@ -9,8 +9,10 @@ ghost use Rattle.definition.specs.Width.{block_count};
 ghost use Rattle.columns_definition.specs.Dump.{column_at};
 ghost use Rattle.columns_definition.specs.Products.{products_of};
 ghost use Rattle.columns_definition.specs.Columns.{row_sum, inject_column, inject_dump, inject_outcome};
+ghost use Rattle.refusals.specs.Number.{number_of};
 
 use definition::Width;
+use refusals::Refusal;
 
 // The bytes at position l of a dump of n blocks.
 fn position(dump: &[u8], n: usize, l: usize) -> [u8; 5]
@@ -225,13 +227,10 @@ fn inject_at(w: Width, dump: &mut [u8], message: &[u8])
 }
 
 // A message block's columns injected into a state's.
-pub fn inject(code: usize, dump: &mut [u8], message: &[u8]) -> u32
-    ensures { record { number = result; buffer = dump.new } ≡ inject_outcome code dump.old message.now }
+pub fn inject(code: usize, dump: &mut [u8], message: &[u8]) -> Result<(), Refusal>
+    ensures { record { number = number_of result; buffer = dump.new } ≡ inject_outcome code dump.old message.now }
 {
-    let number = columns_judge::refusal(code, dump.len(), message.len(), 32);
-    if number != refusals::DONE {
-        return number;
-    }
+    columns_judge::refusal(code, dump.len(), message.len(), 32)?;
     inject_at(codes::width(code), dump, message);
-    refusals::DONE
+    Ok(())
 }
