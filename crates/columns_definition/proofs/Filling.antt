@@ -1,13 +1,14 @@
 -- A buffer that a loop fills, element by element from a place on, or from its beginning by rows of one length.
 -- Assumes nothing.
 use mathlib.Core.Path.{◌≡◌, refl, sym, ap, ◌∙◌}
-use mathlib.Core.List.{List, [], ◌∷◌, append-nil}
+use mathlib.Core.List.{List, [], ◌∷◌, append_assoc, append-nil}
 use Prim.Native.Nat.{ℕ, suc, ◌+◌, ◌*◌, ◌<◌, ◌≤◌}
 use native.Mathlib.Nat.{zero-add, mul-le-mul_left}
 use native.Mathlib.Numerals.{add-one}
 use native.Mathlib.Omega.{arith}
 use lib.ListN.{length, set, take, drop, drop_of_length-le}
-use lib.Seq.{set_split, append_snoc}
+use lib.Seq.{set_split, append_snoc, drop-drop}
+use borrow.Rule.Slice.PartMut.{put_mid}
 use Rattle.definition.specs.Buffer.{overwrite_at}
 use Rattle.definition.proofs.Buffer.{overwrite_at-more, overwrite_at-none, length-overwrite_at}
 use Rattle.columns_definition.specs.Dump.{up_to, rows_to}
@@ -31,6 +32,11 @@ element_more i j f l h =
 pub element_none : (i : ℕ) (f : ℕ → ℕ) (l : List ℕ) → l ≡ overwrite_at i (up_to 0 f) l
 unfolding up_to
 element_none i f l = sym (overwrite_at-none i l)
+
+-- what a part of it is set to stands there
+pub part_set : (i k : ℕ) (p l : List ℕ) → k ≡ length p → put_mid i k l p ≡ overwrite_at i p l
+unfolding overwrite_at
+part_set i k p l e = rw (e, drop-drop (length p) i l, ← append_assoc)
 
 -- rows of n elements
 module _ (n : ℕ) (f : ℕ → List ℕ) (l : List ℕ) where

@@ -6,7 +6,7 @@ ghost use Rattle.std.specs.Prelude.{◌≡◌};
 ghost use Rattle.columns_definition.specs.Products.{products};
 
 // A table for each of 01, 02, 03, 04, 06, 07, 08, 0A, 0F and 10; every sixteenth entry says which it is.
-const PRODUCTS: [[u8; 256]; 10] = [
+static PRODUCTS: [[u8; 256]; 10] = [
     // 01
     [
         0x00, 0x01, 0x02, 0x03, 0x04, 0x05, 0x06, 0x07, 0x08, 0x09, 0x0a, 0x0b, 0x0c, 0x0d, 0x0e,
@@ -359,9 +359,9 @@ const PRODUCTS: [[u8; 256]; 10] = [
     ],
 ];
 
-// All of them, by value: whoever takes single tables out of it copies no others when compiled.
-pub fn tables() -> [[u8; 256]; 10]
-    ensures { result ≡ products }
+// All of them.
+pub fn tables() -> &'static [[u8; 256]; 10]
+    ensures { result.now ≡ products }
 {
-    PRODUCTS
+    &PRODUCTS
 }
