@@ -1,19 +1,19 @@
 -- Eight words from a place on are the block that is read there; and a block's words as they are read bit by bit.
 -- Assumes nothing.
-use mathlib.Core.Path.{◌≡◌, sym, ap, ◌∙◌}
-use mathlib.Core.List.{List}
+use mathlib.Core.Path.{◌≡◌, refl, sym, ap, ◌∙◌}
+use mathlib.Core.List.{List, ◌++◌}
 use Prim.Native.Nat.{ℕ, suc, ◌+◌, ◌*◌, ◌%◌, ◌^◌, ◌<◌, ◌≤◌}
-use native.Mathlib.Nat.{add-zero, mul-le-mul_right, mod-eq_of_lt, pow-suc}
+use native.Mathlib.Nat.{add-zero, mul-suc, mul-le-mul_right, mod-eq_of_lt, pow-suc}
 use native.Mathlib.Numerals.{add-one}
 use native.Mathlib.Omega.{arith}
-use lib.ListN.{get_or, drop}
+use lib.ListN.{length, get_or, drop, get_or-append}
 use lib.Pow.{pow_mono}
-use lib.Seq.{get_or-drop}
+use lib.Seq.{get_or-drop, drop_at, drop-drop, ext_get_or}
 use Rattle.definition.specs.declared.Block.{Block}
 use Rattle.definition.specs.Word.{bit, from_bits}
 use Rattle.definition.specs.Block.{words_of, block_from}
 use Rattle.definition.proofs.Bits.{bit_lt, from_bits-lt}
-use Rattle.columns_definition.specs.Dump.{block_to}
+use Rattle.columns_definition.specs.Dump.{block_to, block_at}
 use Rattle.columns_definition.proofs.Dumps.{word_to}
 
 pub eight : (i : ℕ) (ws : List ℕ)
@@ -53,23 +53,36 @@ bit_fits y l a h k b =
 pub bit_shifted : (y l a : ℕ) → y < 2 → l < 32 → a < 2 ^ l → y * 2 ^ l % 2 ^ 32 ≡ y * 2 ^ l
 bit_shifted y l a h k b = mod-eq_of_lt (omega (arith, bit_fits y l a h k b))
 
--- the first l bits of the words of block j are below 2^l
-pub bits_below : (l n j k : ℕ) (d : List ℕ) (b : Block) → b ≡ block_to l n j d → k < 8 → get_or (words_of b) k 0 < 2 ^ l
-bits_below l n j k d b e h = rw (e, word_to l n j k d h) (from_bits-lt l _ (λ i. bit_lt k _))
+-- bit k of byte j of the first l columns of n bytes, as a word
+unfoldable pub bits_to : (l n j k : ℕ) (d : List ℕ) → ℕ
+bits_to l n j k d = from_bits l (λ i. bit k (get_or d (n * i + j) 0))
 
--- and one bit more of each makes the first l + 1
-pub bits_more : (l n j : ℕ) (d : List ℕ) (b : Block) → b ≡ block_to l n j d
-    → ◌≡◌ {A = Block}
-    (record {
-      a0 = bit 0 (get_or d (n * l + j) 0) * 2 ^ l + b.a0;
-      a1 = bit 1 (get_or d (n * l + j) 0) * 2 ^ l + b.a1;
-      a2 = bit 2 (get_or d (n * l + j) 0) * 2 ^ l + b.a2;
-      a3 = bit 3 (get_or d (n * l + j) 0) * 2 ^ l + b.a3;
-      a4 = bit 4 (get_or d (n * l + j) 0) * 2 ^ l + b.a4;
-      a5 = bit 5 (get_or d (n * l + j) 0) * 2 ^ l + b.a5;
-      a6 = bit 6 (get_or d (n * l + j) 0) * 2 ^ l + b.a6;
-      a7 = bit 7 (get_or d (n * l + j) 0) * 2 ^ l + b.a7;
-    })
-    (block_to (l + 1) n j d)
-unfolding block_to from_bits
-bits_more l n j d b e = rw (e, add-one l)
+pub bits_none : (n j k : ℕ) (d : List ℕ) → bits_to 0 n j k d ≡ 0
+unfolding bits_to from_bits
+bits_none n j k d = refl
+
+pub bits_below : (l n j k : ℕ) (d : List ℕ) → bits_to l n j k d < 2 ^ l
+unfolding bits_to
+bits_below l n j k d = from_bits-lt l _ (λ i. bit_lt k _)
+
+-- one bit more
+pub bits_more : (l n j k : ℕ) (d : List ℕ) → bit k (get_or d (n * l + j) 0) * 2 ^ l + bits_to l n j k d ≡ bits_to (l + 1) n j k d
+unfolding bits_to from_bits
+bits_more l n j k d = rw (add-one l)
+
+-- all 32 are the words of the block
+pub bits_all : (n j : ℕ) (d ws : List ℕ) → length ws ≡ 8 → ((k : ℕ) → k < 8 → get_or ws k 0 ≡ bits_to 32 n j k d) → ws ≡ words_of (block_at n j d)
+unfolding bits_to block_at
+bits_all n j d ws e h =
+    ext_get_or 0 ws (words_of (block_to 32 n j d)) (e ∙ unfold words_of in refl)
+    (λ k i. let s : k < 8 = omega (arith, i, e) in h k s ∙ sym (word_to 32 n j k d s))
+
+-- byte j of the next column
+pub next_byte : (n l j : ℕ) (d column rest : List ℕ) → drop (n * l) d ≡ column ++ rest → length column ≡ n → j < n → get_or column j 0 ≡ get_or d (n * l + j) 0
+next_byte n l j d column rest e s h =
+    sym (get_or-append column rest 0 j (omega arith)) ∙ ap (λ (ds : List ℕ). get_or ds j 0) (sym e) ∙ get_or-drop (n * l) d j 0
+
+-- and what is left after it
+pub next_rest : (n l : ℕ) (d column rest : List ℕ) → drop (n * l) d ≡ column ++ rest → length column ≡ n → rest ≡ drop (n * (l + 1)) d
+next_rest n l d column rest e s =
+    sym (drop_at column rest n s) ∙ ap (drop n) (sym e) ∙ drop-drop n (n * l) d ∙ ap (λ (i : ℕ). drop i d) (rw (add-one l) (sym (mul-suc n l)))

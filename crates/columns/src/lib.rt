@@ -73,37 +73,18 @@ fn with_bit(a: u32, x: u8, k: usize, l: usize) -> u32
     ((((x as u32) >> k) % 2) << l) + a
 }
 
-// Block j of the n blocks of a dump.
-fn block_at(dump: &[u8], n: usize, j: usize) -> Block
+// The words of block j of the n blocks of a dump.
+fn words_at(dump: &[u8], n: usize, j: usize) -> [u32; 8]
     requires { (n ≤ 5) × (j < n) × (length dump.now ≡ 32 * n) }
-    ensures { result ≡ block_at n j dump.now }
+    ensures { result ≡ words_of (block_at n j dump.now) }
 {
-    let mut b = blocks::zero();
-    for l in 0..32usize {
-        let x = dump[n * l + j];
-        b = Block {
-            a0: with_bit(b.a0, x, 0, l),
-            a1: with_bit(b.a1, x, 1, l),
-            a2: with_bit(b.a2, x, 2, l),
-            a3: with_bit(b.a3, x, 3, l),
-            a4: with_bit(b.a4, x, 4, l),
-            a5: with_bit(b.a5, x, 5, l),
-            a6: with_bit(b.a6, x, 6, l),
-            a7: with_bit(b.a7, x, 7, l),
-        };
+    let mut words = [0; 8];
+    for (l, column) in dump.chunks_exact(n).enumerate() {
+        for (k, word) in words.iter_mut().enumerate() {
+            *word = with_bit(*word, column[j], k, l);
+        }
     }
-    b
-}
-
-// A block's words as words 8j to 8j + 7.
-fn put_block(words: &mut [u32], j: usize, b: Block)
-    requires { (8 * j + 8 ≤ length words.old) × (length words.old ≤ 40) }
-    ensures { words.new ≡ overwrite_at (8 * j) (words_of b) words.old }
-{
-    let ws = [b.a0, b.a1, b.a2, b.a3, b.a4, b.a5, b.a6, b.a7];
-    for k in 0..8usize {
-        words[8 * j + k] = ws[k];
-    }
+    words
 }
 
 // The words of the n blocks of a dump.
@@ -112,8 +93,7 @@ fn put_blocks(dump: &[u8], n: usize, words: &mut [u32])
     ensures { words.new ≡ words_of_all (undump n dump.now) }
 {
     for j in 0..n {
-        let b = block_at(dump, n, j);
-        put_block(words, j, b);
+        words[8 * j..8 * j + 8].copy_from_slice(&words_at(dump, n, j));
     }
 }
 
