@@ -10,7 +10,7 @@ use lib.Dec.{eqb}
 use lib.ListN.{length, get_or}
 use borrow.Author.Tests.{eqb-true, eq-eqb}
 use Rattle.definition.specs.Padding.{whole_bytes}
-use Rattle.definition.specs.Refusal.{RECORD, pick, first_of, when_done}
+use Rattle.definition.specs.Refusal.{RECORD, pick, first_of}
 use Rattle.hash_definition.specs.declared.Held.{Held}
 use Rattle.hash_definition.specs.declared.Kept.{Kept}
 use Rattle.hash_definition.specs.Record.{record_length, decode, encode, held_of, count_of, bytes_fed, pending_count, well_formed, fed_bits}
@@ -18,7 +18,10 @@ use Rattle.hash_definition.specs.Calls.{odd_refusal, long_refusal, record_refusa
 use Rattle.hash_record.specs.declared.Glanced.{Glanced}
 use Rattle.hash_record.specs.Reading.{waiting_of, glance_of, held_written}
 use Rattle.hash_pieces.specs.Short.{short_of}
-use Rattle.definition.proofs.Refusals.{in_turn_lem}
+use Rattle.std.specs.Prelude.{Result, IsErrAnd}
+use Rattle.refusals.specs.declared.Refusal.{Refusal}
+use Rattle.refusals.specs.Number.{number, number_of}
+use Rattle.refusals.proofs.Judged.{refused, passed as past}
 use Rattle.hash_definition.proofs.Formed.{formed}
 use Rattle.hash_definition.proofs.Records.{encode-decode}
 use Rattle.hash_definition.proofs.Ending.{low_pending, pending_lt}
@@ -59,12 +62,18 @@ module _ (b piece : List ℕ) (odd : ℕ) (s : whole_bytes odd (length piece) < 
   short : whole_bytes odd (length piece) < 32 - k.low % 32
   short = rw (low_pending k) (rw waits at s)
 
-  -- the three judgements in turn are the list
-  pub judged : {g : Glanced} {form size first : ℕ} → g ≡ glance_of b → form ≡ first_of ((RECORD, not g.well) ∷ [])
-      → size ≡ first_of (odd_refusal g.held.odd odd (length piece) ∷ long_refusal g.code (count_of g.held.high g.held.low) odd (length piece) ∷ [])
-      → first ≡ when_done form size form → first ≡ first_of (feed_refusals b odd (length piece))
+  -- 3 refuses
+  pub by_form : {g : Glanced} (r : Result (Unit {0}) Refusal) (e : Refusal) → g ≡ glance_of b → IsErrAnd r (λ y. y ≡ e) → number e ≡ first_of ((RECORD, not g.well) ∷ [])
+      → number_of r ≡ first_of (feed_refusals b odd (length piece))
+  unfolding feed_refusals record_refusal
+  by_form r e q h f = refused r e (_ ∷ []) (_ ∷ _ ∷ []) h (rw (q, glanced) at f)
+
+  -- past it the piece decides
+  pub by_piece : {g : Glanced} {x : ℕ} → g ≡ glance_of b → 0 ≡ first_of ((RECORD, not g.well) ∷ [])
+      → x ≡ first_of (odd_refusal g.held.odd odd (length piece) ∷ long_refusal g.code (count_of g.held.high g.held.low) odd (length piece) ∷ [])
+      → x ≡ first_of (feed_refusals b odd (length piece))
   unfolding feed_refusals record_refusal bytes_fed held_of odd_refusal long_refusal
-  judged e f p r = (rw (f, p, e, glanced) at r) ∙ in_turn_lem (_ ∷ []) (_ ∷ _ ∷ []) (omega arith)
+  by_piece e f p = (rw (e, glanced) at p) ∙ sym (past (_ ∷ []) (_ ∷ _ ∷ []) (omega arith) (rw (e, glanced) at f))
 
   module _ (bytes : (i : ℕ) → get_or b i 0 < 256) (n : first_of (feed_refusals b odd (length piece)) ≡ 0) where
     -- no refusal meets the piece

@@ -2,16 +2,19 @@
 // to 4; document 02, Q-2 and Q-7). Each call's outcome, its answer and the buffer that was lent for writing, is one function of its inputs.
 #![tactic(auto)]
 
-ghost use Rattle.std.specs.Prelude.{◌≡◌, [], ◌∷◌, ◌-◌, ◌*◌, ◌^◌, ◌<◌, ◌≤◌, length, get_or};
+ghost use Rattle.std.specs.Prelude.{◌≡◌, [], ◌∷◌, ◌-◌, ◌*◌, ◌<◌, ◌≤◌, length, get_or};
 ghost use Rattle.definition.specs.Padding.{whole_bytes, closing_byte, bits_in};
 ghost use Rattle.definition.specs.Luffa.{luffa_output};
 ghost use Rattle.definition.specs.Buffer.{overwrite};
-ghost use Rattle.definition.specs.Refusal.{first_of, when_done, out_refusal};
+ghost use Rattle.definition.specs.Refusal.{first_of, out_refusal};
+ghost use Rattle.refusals.specs.Number.{number_of};
+ghost use Rattle.hash_kept.specs.Answer.{answer_of};
 ghost use Rattle.hash_record.specs.Reading.{waiting_of};
 ghost use Rattle.hash_definition.specs.Calls.{odd_refusal, long_refusal, digest_bits_outcome, digest_outcome, start_outcome, feed_bits_outcome, feed_outcome, finish_outcome};
 ghost use Rattle.hash_definition.specs.Output.{output_by, output_bits_outcome, output_outcome, finish_output_outcome};
 
-use hash_definition::{Held, OutputAnswer};
+use hash_definition::Held;
+use refusals::Refusal;
 
 // The byte that closes a message of n whole bytes: its last one holds the odd bits where it isn't whole.
 fn closing(message: &[u8], odd: usize, n: usize) -> u8
@@ -23,17 +26,15 @@ fn closing(message: &[u8], odd: usize, n: usize) -> u8
     rounds::last::CLOSING
 }
 
-// A number of words of a message that may end with odd bits, unless 2, 17 and 4 in turn, or what was judged before them, refuse the call.
+// A number of words of a message that may end with odd bits, and the rounds that they took; 2, 17 and 4 in turn refuse the call.
 fn put_out(
-    before: u32,
     code: usize,
     words: usize,
     message: &[u8],
     odd: usize,
     out: &mut [u8],
-) -> OutputAnswer
-    ensures number_bound { result.number < 2 ^ 32 }
-    ensures out_after { record { answer = result; buffer = out.new } ≡ output_by (when_done before (first_of (out_refusal (4 * words) (length out.old) ∷ odd_refusal 0 odd (length message.now) ∷ long_refusal code 0 odd (length message.now) ∷ [])) before) words (overwrite (luffa_output code words (bits_in message.now odd)) out.old) out.old }
+) -> Result<u64, Refusal>
+    ensures { record { answer = answer_of result; buffer = out.new } ≡ output_by (first_of (out_refusal (4 * words) (length out.old) ∷ odd_refusal 0 odd (length message.now) ∷ long_refusal code 0 odd (length message.now) ∷ [])) words (overwrite (luffa_output code words (bits_in message.now odd)) out.old) out.old }
 {
     let none = Held {
         odd: 0,
@@ -41,117 +42,88 @@ fn put_out(
         high: 0,
         low: 0,
     };
-    let size = refusals::first(
-        refusals::out(words, out.len()),
-        hash_kept::piece(code, none, odd, message.len()),
-    );
-    let number = refusals::first(before, size);
-    if number != refusals::DONE {
-        return OutputAnswer {
-            number: number as u64,
-            rounds: 0,
-        };
-    }
+    refusals::room(words, out.len())?;
+    hash_kept::piece(code, none, odd, message.len())?;
     let w = codes::width(code);
     let n = hash_kept::whole(odd, message.len());
     let byte = closing(message, odd, n);
-    OutputAnswer {
-        number: 0,
-        rounds: squeeze::end(w, rounds::start(w), &message[..n], byte, words, out),
-    }
+    Ok(squeeze::end(w, rounds::start(w), &message[..n], byte, words, out))
 }
 
 // The digest in one call of a message that may end with odd bits: the digest's words.
-pub fn digest_bits(code: usize, message: &[u8], odd: usize, out: &mut [u8]) -> u32
-    ensures { record { number = result; buffer = out.new } ≡ digest_bits_outcome code message.now odd out.old }
+pub fn digest_bits(code: usize, message: &[u8], odd: usize, out: &mut [u8]) -> Result<(), Refusal>
+    ensures { record { number = number_of result; buffer = out.new } ≡ digest_bits_outcome code message.now odd out.old }
 {
-    let a = put_out(
-        refusals::width(code),
-        code,
-        codes::words(code),
-        message,
-        odd,
-        out,
-    );
-    a.number as u32
+    refusals::known_code(code)?;
+    put_out(code, codes::words(code), message, odd, out)?;
+    Ok(())
 }
 
 // The same of a message of whole bytes.
-pub fn digest(code: usize, message: &[u8], out: &mut [u8]) -> u32
-    ensures { record { number = result; buffer = out.new } ≡ digest_outcome code message.now out.old }
+pub fn digest(code: usize, message: &[u8], out: &mut [u8]) -> Result<(), Refusal>
+    ensures { record { number = number_of result; buffer = out.new } ≡ digest_outcome code message.now out.old }
 {
     digest_bits(code, message, 0, out)
 }
 
-// A number of words in one call of a message that may end with odd bits.
+// A number of words in one call of a message that may end with odd bits, and the rounds that they took.
 pub fn output_bits(
     code: usize,
     words: usize,
     message: &[u8],
     odd: usize,
     out: &mut [u8],
-) -> OutputAnswer
-    ensures { record { answer = result; buffer = out.new } ≡ output_bits_outcome code words message.now odd out.old }
+) -> Result<u64, Refusal>
+    ensures { record { answer = answer_of result; buffer = out.new } ≡ output_bits_outcome code words message.now odd out.old }
 {
-    let before = refusals::first(refusals::width(code), hash_kept::words(words));
-    put_out(before, code, words, message, odd, out)
+    refusals::known_code(code)?;
+    hash_kept::words(words)?;
+    put_out(code, words, message, odd, out)
 }
 
 // The same of a message of whole bytes.
-pub fn output(code: usize, words: usize, message: &[u8], out: &mut [u8]) -> OutputAnswer
-    ensures { record { answer = result; buffer = out.new } ≡ output_outcome code words message.now out.old }
+pub fn output(code: usize, words: usize, message: &[u8], out: &mut [u8]) -> Result<u64, Refusal>
+    ensures { record { answer = answer_of result; buffer = out.new } ≡ output_outcome code words message.now out.old }
 {
     output_bits(code, words, message, 0, out)
 }
 
 // A fresh record at a code.
-pub fn start(code: usize, record: &mut [u8]) -> u32
-    ensures { record { number = result; buffer = «record».new } ≡ start_outcome code «record».old }
+pub fn start(code: usize, record: &mut [u8]) -> Result<(), Refusal>
+    ensures { record { number = number_of result; buffer = «record».new } ≡ start_outcome code «record».old }
 {
-    let number = refusals::first(
-        refusals::width(code),
-        refusals::when(record.len() != hash_record::LENGTH, refusals::RECORD),
-    );
-    if number != refusals::DONE {
-        return number;
-    }
+    refusals::known_code(code)?;
+    Refusal::Record.when(record.len() != hash_record::LENGTH)?;
     hash_record::encode(hash_working::started(code), record);
-    refusals::DONE
+    Ok(())
 }
 
 // A piece that completes no block: the state is judged where it lies, and stays there.
-fn feed_short(record: &mut [u8], piece: &[u8], odd: usize) -> u32
+fn feed_short(record: &mut [u8], piece: &[u8], odd: usize) -> Result<(), Refusal>
     requires { whole_bytes odd (length piece.now) < 32 - waiting_of «record».old }
-    ensures { record { number = result; buffer = «record».new } ≡ feed_bits_outcome «record».old piece.now odd }
+    ensures { record { number = number_of result; buffer = «record».new } ≡ feed_bits_outcome «record».old piece.now odd }
 {
     let g = hash_record::glance(record);
     let h = g.held;
-    let form = refusals::when(!g.well, refusals::RECORD);
-    let number = refusals::first(form, hash_kept::piece(g.code, h, odd, piece.len()));
-    if number != refusals::DONE {
-        return number;
-    }
+    Refusal::Record.when(!g.well)?;
+    hash_kept::piece(g.code, h, odd, piece.len())?;
     hash_record::put_held(hash_pieces::short_fed(h, piece, odd), record);
-    refusals::DONE
+    Ok(())
 }
 
 // Any piece: the record is read, fed by value and written.
-fn feed_whole(record: &mut [u8], piece: &[u8], odd: usize) -> u32
-    ensures { record { number = result; buffer = «record».new } ≡ feed_bits_outcome «record».old piece.now odd }
+fn feed_whole(record: &mut [u8], piece: &[u8], odd: usize) -> Result<(), Refusal>
+    ensures { record { number = number_of result; buffer = «record».new } ≡ feed_bits_outcome «record».old piece.now odd }
 {
-    let k = hash_record::read(record);
-    let a = hash_pieces::fed_answer(k, piece, odd);
-    if a.number != refusals::DONE {
-        return a.number;
-    }
-    let after = a.kept;
-    hash_record::encode(after, record);
-    refusals::DONE
+    let mut k = hash_record::read(record);
+    hash_pieces::feed(&mut k, piece, odd)?;
+    hash_record::encode(k, record);
+    Ok(())
 }
 
 // A piece, which may end with odd bits, fed to a record, which is altered where it lies.
-pub fn feed_bits(record: &mut [u8], piece: &[u8], odd: usize) -> u32
-    ensures { record { number = result; buffer = «record».new } ≡ feed_bits_outcome «record».old piece.now odd }
+pub fn feed_bits(record: &mut [u8], piece: &[u8], odd: usize) -> Result<(), Refusal>
+    ensures { record { number = number_of result; buffer = «record».new } ≡ feed_bits_outcome «record».old piece.now odd }
 {
     let n = hash_kept::whole(odd, piece.len());
     if n < 32 - hash_record::waiting(record) {
@@ -161,24 +133,22 @@ pub fn feed_bits(record: &mut [u8], piece: &[u8], odd: usize) -> u32
 }
 
 // The same of a piece of whole bytes.
-pub fn feed(record: &mut [u8], piece: &[u8]) -> u32
-    ensures { record { number = result; buffer = «record».new } ≡ feed_outcome «record».old piece.now }
+pub fn feed(record: &mut [u8], piece: &[u8]) -> Result<(), Refusal>
+    ensures { record { number = number_of result; buffer = «record».new } ≡ feed_outcome «record».old piece.now }
 {
     feed_bits(record, piece, 0)
 }
 
 // The digest of what a record was fed; the record stays as it is.
-pub fn finish(record: &[u8], out: &mut [u8]) -> u32
-    ensures { record { number = result; buffer = out.new } ≡ finish_outcome «record».now out.old }
+pub fn finish(record: &[u8], out: &mut [u8]) -> Result<(), Refusal>
+    ensures { record { number = number_of result; buffer = out.new } ≡ finish_outcome «record».now out.old }
 {
-    let k = hash_record::read(record);
-    hash_working::finished_answer(k, out)
+    hash_working::finish(hash_record::read(record), out)
 }
 
 // A number of words of what a record was fed; the record stays as it is.
-pub fn finish_output(record: &[u8], words: usize, out: &mut [u8]) -> OutputAnswer
-    ensures { record { answer = result; buffer = out.new } ≡ finish_output_outcome «record».now words out.old }
+pub fn finish_output(record: &[u8], words: usize, out: &mut [u8]) -> Result<u64, Refusal>
+    ensures { record { answer = answer_of result; buffer = out.new } ≡ finish_output_outcome «record».now words out.old }
 {
-    let k = hash_record::read(record);
-    hash_working::finished_output(k, words, out)
+    hash_working::finish_output(hash_record::read(record), words, out)
 }

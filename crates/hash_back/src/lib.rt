@@ -5,11 +5,14 @@ ghost use Rattle.std.specs.Prelude.{◌≡◌, ◌-◌, ◌/◌, ◌%◌, ◌^�
 ghost use Rattle.definition.specs.Refusal.{first_of};
 ghost use Rattle.definition.specs.State.{blocks_in, state_of};
 ghost use Rattle.hash_definition.specs.Record.{count_of};
+ghost use Rattle.hash_kept.specs.Answer.{lent_of};
+ghost use Rattle.refusals.specs.Number.{number_of};
 ghost use Rattle.back_definition.specs.Round.{round_back};
 ghost use Rattle.back_definition.specs.Back.{backed as backed_of, back_refusal, back_outcome, lent_back_refusals, lent_back_outcome};
 
 use definition::{Block, State, Width};
-use hash_definition::{Kept, Lent};
+use hash_definition::Kept;
+use refusals::Refusal;
 
 // The bytes of a block.
 const BLOCK: usize = 32;
@@ -22,13 +25,13 @@ struct Count {
 }
 
 // 18: pending bytes, odd bits, a count under 32, or a block that isn't 32 bytes.
-fn refusal(k: Kept, n: usize) -> u32
-    ensures { result ≡ first_of (back_refusal k n ∷ []) }
+fn refusal(k: Kept, n: usize) -> Result<(), Refusal>
+    ensures { number_of result ≡ first_of (back_refusal k n ∷ []) }
 {
     let pending = k.low % 32 != 0;
     let odd = k.odd != 0;
     let under = (k.high == 0) & (k.low < 32);
-    refusals::when(pending | odd | under | (n != BLOCK), refusals::BACK)
+    Refusal::Back.when(pending | odd | under | (n != BLOCK))
 }
 
 // A count of at least 32, 32 less: what the low word lacks is borrowed from the high one.
@@ -65,33 +68,20 @@ fn backed(k: Kept, block: &[u8]) -> Kept
     r
 }
 
-// The answer to a step back, and what is held afterwards.
-fn answer(k: Kept, block: &[u8]) -> Lent
-    ensures { result ≡ lent_back_outcome k block.now }
+// What a record holds, stepped back over a block.
+fn answer(k: Kept, block: &[u8]) -> Result<Kept, Refusal>
+    ensures { lent_of result k ≡ lent_back_outcome k block.now }
 {
-    let number = refusals::first(hash_kept::form(k), refusal(k, block.len()));
-    if number != refusals::DONE {
-        return Lent {
-            number: number,
-            kept: k,
-        };
-    }
-    Lent {
-        number: refusals::DONE,
-        kept: backed(k, block),
-    }
+    hash_kept::form(k)?;
+    refusal(k, block.len())?;
+    Ok(backed(k, block))
 }
 
 // A step back over a block of a record, which is altered where it lies.
-pub fn back(record: &mut [u8], block: &[u8]) -> u32
-    ensures { record { number = result; buffer = «record».new } ≡ back_outcome «record».old block.now }
+pub fn back(record: &mut [u8], block: &[u8]) -> Result<(), Refusal>
+    ensures { record { number = number_of result; buffer = «record».new } ≡ back_outcome «record».old block.now }
 {
-    let k = hash_record::read(record);
-    let a = answer(k, block);
-    if a.number != refusals::DONE {
-        return a.number;
-    }
-    let before = a.kept;
+    let before = answer(hash_record::read(record), block)?;
     hash_record::encode(before, record);
-    refusals::DONE
+    Ok(())
 }

@@ -14,9 +14,11 @@ ghost use Rattle.hash_definition.specs.Record.{all_zero, held_of, with_held, cou
 ghost use Rattle.hash_definition.specs.Calls.{odd_refusal, long_refusal};
 ghost use Rattle.hash_definition.specs.Lent.{kept_refusal};
 ghost use Rattle.hash_definition.specs.Output.{words_refusal};
+ghost use Rattle.refusals.specs.Number.{number_of};
 
 use definition::{Block, State, Width};
 use hash_definition::{Held, Kept};
+use refusals::Refusal;
 
 // 2^61, in bytes or in 2^64 bytes: eight times that is Table 1's limit in bits, and odd bits never make up for a whole byte.
 const PAST: u64 = 2305843009213693952;
@@ -124,17 +126,17 @@ fn well_kept(k: Kept) -> bool
 }
 
 // 12: no word is asked for, or more than 64.
-pub fn words(words: usize) -> u32
-    ensures { result ≡ first_of (words_refusal words ∷ []) }
+pub fn words(words: usize) -> Result<(), Refusal>
+    ensures { number_of result ≡ first_of (words_refusal words ∷ []) }
 {
-    refusals::when((words == 0) | (64 < words), refusals::WORDS)
+    Refusal::Words.when((words == 0) | (64 < words))
 }
 
 // 3: what a record holds isn't well formed.
-pub fn form(k: Kept) -> u32
-    ensures { result ≡ first_of (kept_refusal k ∷ []) }
+pub fn form(k: Kept) -> Result<(), Refusal>
+    ensures { number_of result ≡ first_of (kept_refusal k ∷ []) }
 {
-    refusals::when(!well_kept(k), refusals::RECORD)
+    Refusal::Record.when(!well_kept(k))
 }
 
 // The whole bytes of a piece: with odd bits its last byte isn't one.
@@ -164,12 +166,9 @@ fn long(code: usize, high: u64, low: u64, n: usize, odd: usize) -> bool
 }
 
 // 17, then 4, of n bytes with odd bits, fed to what holds odd bits and a count.
-pub fn piece(code: usize, h: Held, odd: usize, n: usize) -> u32
-    ensures { result ≡ first_of (odd_refusal h.odd odd n ∷ long_refusal code (count_of h.high h.low) odd n ∷ []) }
+pub fn piece(code: usize, h: Held, odd: usize, n: usize) -> Result<(), Refusal>
+    ensures { number_of result ≡ first_of (odd_refusal h.odd odd n ∷ long_refusal code (count_of h.high h.low) odd n ∷ []) }
 {
-    if (h.odd != 0) | (7 < odd) | ((odd != 0) & (n == 0)) {
-        return refusals::ODD;
-    }
-    let past = long(code, h.high, h.low, whole(odd, n), odd);
-    refusals::when(past, refusals::LONG)
+    Refusal::Odd.when((h.odd != 0) | (7 < odd) | ((odd != 0) & (n == 0)))?;
+    Refusal::Long.when(long(code, h.high, h.low, whole(odd, n), odd))
 }

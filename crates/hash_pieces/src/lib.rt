@@ -2,18 +2,20 @@
 // pending bytes, or absorbed where it lies. A piece that completes no block alters the pending bytes, the odd bits and the count alone.
 #![tactic(auto)]
 
-ghost use Rattle.std.specs.Prelude.{◌≡◌, ◌+◌, ◌-◌, ◌*◌, ◌%◌, ◌<◌, true, ◌++◌, length, take};
+ghost use Rattle.std.specs.Prelude.{◌≡◌, ◌+◌, ◌-◌, ◌*◌, ◌%◌, ◌<◌, ◌≤◌, true, ◌++◌, length, take};
 ghost use Rattle.definition.specs.Round.{chain};
-ghost use Rattle.definition.specs.Padding.{blocks};
+ghost use Rattle.definition.specs.Padding.{blocks, whole_bytes};
 ghost use Rattle.definition.specs.State.{blocks_in, state_of};
 ghost use Rattle.definition.specs.Luffa.{limit_at};
 ghost use Rattle.definition.specs.Refusal.{first_of};
-ghost use Rattle.hash_definition.specs.Record.{with_held, bytes_fed, well_kept, fed as fed_of, fed_bits as fed_bits_of};
+ghost use Rattle.hash_definition.specs.Record.{bytes_fed, well_kept, fed as fed_of, fed_bits as fed_bits_of};
 ghost use Rattle.hash_definition.specs.Lent.{lent_feed_refusals, lent_feed_bits_outcome};
+ghost use Rattle.refusals.specs.Number.{number_of};
 ghost use Rattle.hash_pieces.specs.Short.{high_of, low_of, stays_of, ended_of, short_of};
 
 use definition::{Counted, State, Width};
-use hash_definition::{Held, Kept, Lent};
+use hash_definition::{Held, Kept};
+use refusals::Refusal;
 
 // A count of whole bytes in two words.
 #[derive(Clone, Copy)]
@@ -38,13 +40,11 @@ fn counted(high: u64, low: u64, n: usize) -> Count
 fn stays(h: Held, piece: &[u8]) -> Held
     ensures { result ≡ stays_of h piece.now }
 {
-    let p = h.pending;
     let pos = (h.low % 32) as usize;
-    let pending = octets::pasted(p, pos, piece);
     let c = counted(h.high, h.low, piece.len());
     Held {
         odd: h.odd,
-        pending: pending,
+        pending: octets::pasted(h.pending, pos, piece),
         high: c.high,
         low: c.low,
     }
@@ -54,14 +54,11 @@ fn stays(h: Held, piece: &[u8]) -> Held
 fn ended(h: Held, odd: usize, byte: u8) -> Held
     ensures { result ≡ ended_of h odd byte }
 {
-    let p = h.pending;
     let pos = (h.low % 32) as usize;
-    let pending = octets::pasted(p, pos, &[rounds::last::high_bits(odd, byte)]);
     Held {
-        odd: odd,
-        pending: pending,
-        high: h.high,
-        low: h.low,
+        odd,
+        pending: octets::pasted(h.pending, pos, &[rounds::last::high_bits(odd, byte)]),
+        ..h
     }
 }
 
@@ -90,48 +87,37 @@ fn completed(w: Width, s: State, p: [u8; 32], pos: usize, front: &[u8]) -> State
         state: s,
         rounds: 0,
     };
-    let d = rounds::absorb(w, c, &q);
-    d.state
+    rounds::absorb(w, c, &q).state
 }
 
-// Whole bytes fed: they stay pending, or they complete the pending block and are continued from their middle, where they lie.
+// Whole bytes fed that complete the pending block: they are continued from their middle, where they lie.
 fn fed(k: Kept, piece: &[u8]) -> Kept
-    requires { (well_kept k ≡ true) × (k.odd ≡ 0) × (8 * (bytes_fed k + length piece.now) < limit_at k.code) }
+    requires { (well_kept k ≡ true) × (8 * (bytes_fed k + length piece.now) < limit_at k.code) × (32 - k.low % 32 ≤ length piece.now) }
     ensures { result ≡ fed_of k piece.now }
 {
-    let code = k.code;
-    let w = codes::width(code);
-    let s = k.state;
-    let p = k.pending;
+    let w = codes::width(k.code);
     let pos = (k.low % 32) as usize;
-    let n = piece.len();
-    if n < 32 - pos {
-        return hash_kept::with_held(k, stays(hash_kept::held(k), piece));
-    }
-    let count = counted(k.high, k.low, n);
-    let from = (32 - pos) % 32;
+    let (front, rest) = piece.split_at((32 - pos) % 32);
     let c = Counted {
-        state: completed(w, s, p, pos, &piece[..from]),
+        state: completed(w, k.state, k.pending, pos, front),
         rounds: 0,
     };
-    let t = &piece[from..];
-    let d = rounds::absorb(w, c, t);
-    let state = d.state;
-    let at = t.len() / 32 * 32;
-    let pending = octets::pasted([0u8; 32], 0, &t[at..]);
+    let d = rounds::absorb(w, c, rest);
+    let at = rest.len() / 32 * 32;
+    let count = counted(k.high, k.low, piece.len());
     Kept {
-        code: code,
+        code: k.code,
         odd: k.odd,
-        state: state,
-        pending: pending,
+        state: d.state,
+        pending: octets::pasted([0u8; 32], 0, &rest[at..]),
         high: count.high,
         low: count.low,
     }
 }
 
-// A piece fed: its whole bytes, and the odd bits of its last byte, which end the message.
+// A piece fed that completes the pending block: its whole bytes, and the odd bits of its last byte, which end the message.
 fn fed_bits(k: Kept, piece: &[u8], odd: usize) -> Kept
-    requires { first_of (lent_feed_refusals k odd (length piece.now)) ≡ 0 }
+    requires { (first_of (lent_feed_refusals k odd (length piece.now)) ≡ 0) × (32 - k.low % 32 ≤ whole_bytes odd (length piece.now)) }
     ensures { result ≡ fed_bits_of k piece.now odd }
 {
     let n = hash_kept::whole(odd, piece.len());
@@ -139,64 +125,29 @@ fn fed_bits(k: Kept, piece: &[u8], odd: usize) -> Kept
     if n == piece.len() {
         return f;
     }
-    let h = ended(hash_kept::held(f), odd, piece[n]);
-    hash_kept::with_held(f, h)
+    hash_kept::with_held(f, ended(hash_kept::held(f), odd, piece[n]))
 }
 
-// The answer to a feed, and what is held afterwards.
-pub fn fed_answer(k: Kept, piece: &[u8], odd: usize) -> Lent
-    ensures { result ≡ lent_feed_bits_outcome k piece.now odd }
+// A piece, which may end with odd bits, fed to what is held, which is altered where it stands: of a piece that completes no block only what it
+// alters is stored.
+pub fn feed(hash: &mut Kept, piece: &[u8], odd: usize) -> Result<(), Refusal>
+    ensures { record { number = number_of result; kept = hash.new } ≡ lent_feed_bits_outcome hash.old piece.now odd }
 {
-    let form = hash_kept::form(k);
-    let size = hash_kept::piece(k.code, hash_kept::held(k), odd, piece.len());
-    let number = refusals::first(form, size);
-    if number != refusals::DONE {
-        return Lent {
-            number: number,
-            kept: k,
-        };
-    }
-    Lent {
-        number: refusals::DONE,
-        kept: fed_bits(k, piece, odd),
-    }
-}
-
-// The answer to a feed whose piece completes no block, and what is held afterwards beside code and state. Where `stays` isn't told the piece
-// completes one, and nothing is answered.
-#[derive(Clone, Copy)]
-pub struct Short {
-    pub number: u32,
-    pub stays: bool,
-    pub held: Held,
-}
-
-pub fn short_answer(k: Kept, piece: &[u8], odd: usize) -> Short
-    ensures { result.stays ≡ true → record { number = result.number; kept = with_held k result.held } ≡ lent_feed_bits_outcome k piece.now odd }
-{
+    let k = *hash;
     let h = hash_kept::held(k);
     let n = piece.len();
-    let pos = (h.low % 32) as usize;
-    if 32 - pos <= hash_kept::whole(odd, n) {
-        return Short {
-            number: refusals::DONE,
-            stays: false,
-            held: h,
-        };
+    hash_kept::form(k)?;
+    hash_kept::piece(k.code, h, odd, n)?;
+    let pos = (k.low % 32) as usize;
+    if hash_kept::whole(odd, n) < 32 - pos {
+        let s = short_fed(h, piece, odd);
+        let pending = s.pending;
+        hash.odd = s.odd;
+        hash.pending = pending;
+        hash.high = s.high;
+        hash.low = s.low;
+    } else {
+        *hash = fed_bits(k, piece, odd);
     }
-    let form = hash_kept::form(k);
-    let size = hash_kept::piece(k.code, h, odd, n);
-    let number = refusals::first(form, size);
-    if number != refusals::DONE {
-        return Short {
-            number: number,
-            stays: true,
-            held: h,
-        };
-    }
-    Short {
-        number: refusals::DONE,
-        stays: true,
-        held: short_fed(h, piece, odd),
-    }
+    Ok(())
 }

@@ -1,6 +1,5 @@
-// Everything that C can call, and nothing else: thin functions, each with the contract of the function that it calls. Those over a lent struct
-// copy it out, have the answer worked out by value, and where they alter it store what the answer holds. They are what a program in Rattle calls
-// too; luffa_c exports them to C.
+// Everything that C can call, and nothing else: thin functions, each with the contract of the function that it calls, of whose `Result` they
+// answer the number. They are what a program in Rattle calls too; luffa_c exports them to C.
 #![tactic(auto)]
 
 ghost use Rattle.std.specs.Prelude.{◌≡◌};
@@ -26,21 +25,21 @@ use sheet_definition::{Answer, LocatedAnswer};
 pub fn luffa_digest(code: usize, message: &[u8], out: &mut [u8]) -> u32
     ensures { record { number = result; buffer = out.new } ≡ digest_outcome code message.now out.old }
 {
-    hash::digest(code, message, out)
+    refusals::number_of(hash::digest(code, message, out))
 }
 
 // The digest of a message that may end with odd bits.
 pub fn luffa_digest_bits(code: usize, message: &[u8], odd: usize, out: &mut [u8]) -> u32
     ensures { record { number = result; buffer = out.new } ≡ digest_bits_outcome code message.now odd out.old }
 {
-    hash::digest_bits(code, message, odd, out)
+    refusals::number_of(hash::digest_bits(code, message, odd, out))
 }
 
 // Longer output of a message.
 pub fn luffa_output(code: usize, words: usize, message: &[u8], out: &mut [u8]) -> OutputAnswer
     ensures { record { answer = result; buffer = out.new } ≡ output_outcome code words message.now out.old }
 {
-    hash::output(code, words, message, out)
+    hash_working::answer(hash::output(code, words, message, out))
 }
 
 // Longer output of a message that may end with odd bits.
@@ -53,79 +52,63 @@ pub fn luffa_output_bits(
 ) -> OutputAnswer
     ensures { record { answer = result; buffer = out.new } ≡ output_bits_outcome code words message.now odd out.old }
 {
-    hash::output_bits(code, words, message, odd, out)
+    hash_working::answer(hash::output_bits(code, words, message, odd, out))
 }
 
 // A fresh hash record at a code.
 pub fn luffa_start(code: usize, record: &mut [u8]) -> u32
     ensures { record { number = result; buffer = «record».new } ≡ start_outcome code «record».old }
 {
-    hash::start(code, record)
+    refusals::number_of(hash::start(code, record))
 }
 
 // A piece fed to a hash record.
 pub fn luffa_feed(record: &mut [u8], piece: &[u8]) -> u32
     ensures { record { number = result; buffer = «record».new } ≡ feed_outcome «record».old piece.now }
 {
-    hash::feed(record, piece)
+    refusals::number_of(hash::feed(record, piece))
 }
 
 // A piece that may end with odd bits, fed to a hash record.
 pub fn luffa_feed_bits(record: &mut [u8], piece: &[u8], odd: usize) -> u32
     ensures { record { number = result; buffer = «record».new } ≡ feed_bits_outcome «record».old piece.now odd }
 {
-    hash::feed_bits(record, piece, odd)
+    refusals::number_of(hash::feed_bits(record, piece, odd))
 }
 
 // The digest of what a hash record was fed.
 pub fn luffa_finish(record: &[u8], out: &mut [u8]) -> u32
     ensures { record { number = result; buffer = out.new } ≡ finish_outcome «record».now out.old }
 {
-    hash::finish(record, out)
+    refusals::number_of(hash::finish(record, out))
 }
 
 // Longer output of what a hash record was fed.
 pub fn luffa_finish_output(record: &[u8], words: usize, out: &mut [u8]) -> OutputAnswer
     ensures { record { answer = result; buffer = out.new } ≡ finish_output_outcome «record».now words out.old }
 {
-    hash::finish_output(record, words, out)
+    hash_working::answer(hash::finish_output(record, words, out))
 }
 
 // A step back over the last block of what a hash record was fed.
 pub fn luffa_back(record: &mut [u8], block: &[u8]) -> u32
     ensures { record { number = result; buffer = «record».new } ≡ back_outcome «record».old block.now }
 {
-    hash_back::back(record, block)
+    refusals::number_of(hash_back::back(record, block))
 }
 
 // A fresh working state at a code, in a struct that the caller lends.
 pub fn luffa_hash_start(code: usize, hash: &mut Kept) -> u32
     ensures { record { number = result; kept = hash.new } ≡ lent_start_outcome code hash.old }
 {
-    let v = *hash;
-    let a = hash_working::started_answer(code, v);
-    *hash = a.kept;
-    a.number
+    refusals::number_of(hash_working::start(code, hash))
 }
 
-// A piece that may end with odd bits, fed to a working state, which is altered where it stands: of a piece that completes no block only what it
-// alters is stored.
+// A piece that may end with odd bits, fed to a working state, which is altered where it stands.
 pub fn luffa_hash_feed_bits(hash: &mut Kept, piece: &[u8], odd: usize) -> u32
     ensures { record { number = result; kept = hash.new } ≡ lent_feed_bits_outcome hash.old piece.now odd }
 {
-    let v = *hash;
-    let s = hash_pieces::short_answer(v, piece, odd);
-    if s.stays {
-        let pending = s.held.pending;
-        hash.odd = s.held.odd;
-        hash.pending = pending;
-        hash.high = s.held.high;
-        hash.low = s.held.low;
-        return s.number;
-    }
-    let a = hash_pieces::fed_answer(v, piece, odd);
-    *hash = a.kept;
-    a.number
+    refusals::number_of(hash_pieces::feed(hash, piece, odd))
 }
 
 // The same of a piece of whole bytes.
@@ -139,16 +122,14 @@ pub fn luffa_hash_feed(hash: &mut Kept, piece: &[u8]) -> u32
 pub fn luffa_hash_finish(hash: &Kept, out: &mut [u8]) -> u32
     ensures { record { number = result; buffer = out.new } ≡ lent_finish_outcome hash.now out.old }
 {
-    let v = *hash;
-    hash_working::finished_answer(v, out)
+    refusals::number_of(hash_working::finish(*hash, out))
 }
 
 // Longer output of what a working state was fed.
 pub fn luffa_hash_finish_output(hash: &Kept, words: usize, out: &mut [u8]) -> OutputAnswer
     ensures { record { answer = result; buffer = out.new } ≡ lent_finish_output_outcome hash.now words out.old }
 {
-    let v = *hash;
-    hash_working::finished_output(v, words, out)
+    hash_working::answer(hash_working::finish_output(*hash, words, out))
 }
 
 // All marks of a sheet, and its digest.

@@ -21,9 +21,9 @@ fn run(input: &mut impl Read, buf: &mut [u8]) -> (End, Records) {
         match input.read(buf) {
             Ok(0) => return (End::Whole, r),
             Ok(n) => {
-                r = luffasum_lines::feed(r, &buf[..n]);
+                luffasum_lines::feed(&mut r, &buf[..n]);
                 // refused: what is printed no longer depends on what follows
-                if r.number != 0 {
+                if r.fed.is_err() {
                     return (End::Failed, r);
                 }
             }
@@ -40,7 +40,7 @@ fn run(input: &mut impl Read, buf: &mut [u8]) -> (End, Records) {
 // Prints what is to be printed at the reading's end, whole: write_all makes a write that a signal broke off again.
 fn say(end: End, r: Records, output: &mut impl Write) -> io::Result<()> {
     let mut out = [0u8; luffasum_lines::ROOM];
-    let n = luffasum_lines::print(end, r, &mut out);
+    let n = luffasum_lines::print(end, &r, &mut out);
     output.write_all(&out[..n])
 }
 

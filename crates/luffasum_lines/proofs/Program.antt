@@ -25,13 +25,12 @@ use Rattle.hash_definition.proofs.Ending.{kept-finished}
 use Rattle.hash_definition.proofs.WorkingDemand2.{no_bits, lent-fed, lent_feed_long}
 use Rattle.luffasum_lines.specs.declared.End.{End}
 use Rattle.luffasum_lines.specs.declared.End.TheVariants.{Whole, Failed}
-use Rattle.luffasum_lines.specs.declared.Records.{Records}
 use Rattle.luffasum_lines.specs.Line.{line_end, digit, message_line, four_lines}
-use Rattle.luffasum_lines.specs.Text.{limit, record_line, four_records, text_at, text, started_records, fed_each, fed_records, program}
+use Rattle.luffasum_lines.specs.Text.{Reading, limit, record_line, four_records, text_at, text, started_records, fed_each, fed_records, program}
 use Rattle.luffasum_lines.proofs.Held.{length-finished, held, text-four}
 
 -- the records that a message leads to
-abbrev records_of : List ℕ → Records
+abbrev records_of : List ℕ → Reading
 records_of m = record { number = 0; two = kept_of 2 m; three = kept_of 3 m; four = kept_of 4 m }
 
 code_of : (c : ℕ) (m : List ℕ) → (kept_of c m).code ≡ c
@@ -85,7 +84,7 @@ within_text m (p ∷ ps) e h =
     (within_text (m ++ p) ps e (omega (arith, length-append m p)))
 
 -- after a refused read nothing is fed
-stopped : (r : Records) (ps : List (List ℕ)) (e : End) → (r.number ≡ 0 → ⊥) → program r ps e ≡ text e r
+stopped : (r : Reading) (ps : List (List ℕ)) (e : End) → (r.number ≡ 0 → ⊥) → program r ps e ≡ text e r
 unfolding program fed_records
 stopped r [] e h = refl
 stopped r (p ∷ ps) e h = rw (not_done r.number (fed_each r p) r h) (stopped r ps e h)
@@ -101,7 +100,7 @@ past-text m (p ∷ ps) e l h =
           rw (all_fed_on m p t)
           (past-text (m ++ p) ps e (omega (arith, length-append m p)) (omega (arith, length-append m p, length-append p (joined ps))))
       | no t ↦
-          let r : Records = fed_records (records_of m) p in
+          let r : Reading = fed_records (records_of m) p in
           let n : r.number ≡ 0 → ⊥ = λ z. omega (arith, z, all_past m p l (omega arith)) in
           stopped r ps e n ∙ text-four e r n
     ]

@@ -7,19 +7,19 @@ ghost use Rattle.std.specs.Prelude.{◌≡◌, ◌+◌, ◌*◌, ◌<◌, ◌≤
 ghost use Rattle.definition.specs.Luffa.{bytes_at};
 ghost use Rattle.octets.specs.Total.{write_at};
 ghost use Rattle.luffasum_lines.specs.Line.{digit as digit_of, decimal as decimal_of, hexadecimal, line};
-ghost use Rattle.luffasum_lines.specs.Text.{record_line, four_records, room, printed, started_records, fed_each, fed_records};
+ghost use Rattle.luffasum_lines.specs.Text.{record_line, four_records, room, printed, reading_of, started_records, fed_records};
 
 use hash_definition::Kept;
-use refusals::DONE;
+use refusals::Refusal;
 
 // The bytes of text that four lines have at most: two digits for each byte of the digests, and a code, 20 digits, two spaces and a line end
 // for each line.
 pub const ROOM: usize = 440;
 
-// What is held at codes 2, 3 and 4 of all that was read, and 0, or the number by which a read was refused.
+// What is held at codes 2, 3 and 4 of all that was read, and whether a read was refused.
 #[derive(Clone, Copy)]
 pub struct Records {
-    pub number: u32,
+    pub fed: Result<(), Refusal>,
     pub two: Kept,
     pub three: Kept,
     pub four: Kept,
@@ -95,22 +95,19 @@ fn put_record(out: &mut [u8], i: usize, code: u8, c: usize, k: Kept) -> usize
     requires { (code < 16) × (bytes_at code ≤ bytes_at c) × (i + (24 + 2 * bytes_at code) ≤ length out.old) }
     ensures { (result ≡ i + length (record_line code c k)) × (out.new ≡ write_at i (record_line code c k) out.old) }
 {
-    if hash_kept::form(k) != DONE {
-        return i;
-    }
-    if k.code != c {
+    if hash_kept::form(k).is_err() | (k.code != c) {
         return i;
     }
     let mut digest = [0u8; 64];
-    hash_working::finished_answer(k, &mut digest);
+    let _ = hash_working::finish(k, &mut digest);
     let n = 4 * codes::words(code as usize);
     put_line(out, i, code, k.low, &digest[..n])
 }
 
 // The four lines in front of a buffer, and their bytes.
-fn put_lines(r: Records, out: &mut [u8]) -> usize
+fn put_lines(r: &Records, out: &mut [u8]) -> usize
     requires { room ≤ length out.old }
-    ensures { (result ≡ length (four_records r)) × (out.new ≡ write_at 0 (four_records r) out.old) }
+    ensures { (result ≡ length (four_records (reading_of r.now))) × (out.new ≡ write_at 0 (four_records (reading_of r.now)) out.old) }
 {
     let a = put_record(out, 0, 1, 2, r.two);
     let b = put_record(out, a, 2, 2, r.two);
@@ -119,13 +116,13 @@ fn put_lines(r: Records, out: &mut [u8]) -> usize
 }
 
 // What is to be printed, in front of a buffer, and its bytes; nothing where the buffer has less than ROOM.
-pub fn print(end: End, r: Records, out: &mut [u8]) -> usize
-    ensures { record { size = result; buffer = out.new } ≡ printed end r out.old }
+pub fn print(end: End, r: &Records, out: &mut [u8]) -> usize
+    ensures { record { size = result; buffer = out.new } ≡ printed end (reading_of r.now) out.old }
 {
     if out.len() < ROOM {
         return 0;
     }
-    if r.number != DONE {
+    if r.fed.is_err() {
         octets::put_bytes(out, 0, b"4\n");
         return 2;
     }
@@ -137,49 +134,25 @@ pub fn print(end: End, r: Records, out: &mut [u8]) -> usize
 
 // The records to begin with.
 pub fn start() -> Records
-    ensures { result ≡ started_records }
+    ensures { reading_of result ≡ started_records }
 {
     Records {
-        number: DONE,
+        fed: Ok(()),
         two: hash_working::started(2),
         three: hash_working::started(3),
         four: hash_working::started(4),
     }
 }
 
-// A number and three records as one.
-fn together(number: u32, two: Kept, three: Kept, four: Kept) -> Records
-    ensures { result ≡ record { number = number; two = two; three = three; four = four } }
+// What was read, fed to each record, unless a read before it was refused.
+pub fn feed(r: &mut Records, read: &[u8])
+    ensures { reading_of r.new ≡ fed_records (reading_of r.old) read.now }
 {
-    Records {
-        number,
-        two,
-        three,
-        four,
+    if r.fed.is_err() {
+        return;
     }
-}
-
-// What was read, fed to each record.
-fn feed_each(r: Records, read: &[u8]) -> Records
-    ensures { result ≡ fed_each r read.now }
-{
-    let a = hash_pieces::fed_answer(r.two, read, 0);
-    let b = hash_pieces::fed_answer(r.three, read, 0);
-    let c = hash_pieces::fed_answer(r.four, read, 0);
-    together(
-        refusals::first(a.number, refusals::first(b.number, c.number)),
-        a.kept,
-        b.kept,
-        c.kept,
-    )
-}
-
-// The same, unless a read before it was refused.
-pub fn feed(r: Records, read: &[u8]) -> Records
-    ensures { result ≡ fed_records r read.now }
-{
-    if r.number != DONE {
-        return r;
-    }
-    feed_each(r, read)
+    let two = hash_pieces::feed(&mut r.two, read, 0);
+    let three = hash_pieces::feed(&mut r.three, read, 0);
+    let four = hash_pieces::feed(&mut r.four, read, 0);
+    r.fed = refusals::in_turn(two, refusals::in_turn(three, four));
 }

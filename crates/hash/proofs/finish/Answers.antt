@@ -6,4 +6,4 @@ use Rattle.hash.proofs.finish.Goals as goal
 
 pub returns : goal.returns
 returns c =
-    (rw c.read-k.ensures at c.finished_answer.ensures) ∙ finish-read _ _
+    (rw c.read.ensures at c.finish.ensures) ∙ finish-read _ _

@@ -6,4 +6,4 @@ use Rattle.hash.proofs.finish_output.Goals as goal
 
 pub returns : goal.returns
 returns c =
-    (rw c.read-k.ensures at c.finished_output.ensures) ∙ finish_output_read _ _ _
+    (rw c.read.ensures at c.finish_output.ensures) ∙ finish_output_read _ _ _

@@ -16,6 +16,6 @@ pub returns : goal.returns
 returns c =
     let a = c.args in
     let l : length a.p ≡ 32 = search rules in
-    ap (λ (d : Counted). d.state) c.absorb-d.ensures
+    ap (λ (d : Counted). d.state) c.absorb.ensures
     ∙ rw (c.pasted-q.ensures, write_at_lem a.pos a.front.now a.p (omega arith), full_front a.p a.front.now a.pos l (omega arith))
     (counted-state _ _ _)

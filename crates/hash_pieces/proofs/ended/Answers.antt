@@ -5,4 +5,4 @@ use Rattle.hash_pieces.proofs.ended.Goals as goal
 
 pub returns : goal.returns
 unfolding ended_of
-returns c = rw (c.pasted-pending.ensures, c.high_bits.ensures)
+returns c = rw (c.pasted.ensures, c.high_bits.ensures)

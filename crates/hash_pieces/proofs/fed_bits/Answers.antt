@@ -11,12 +11,12 @@ use Rattle.hash_pieces.proofs.fed_bits.Goals as goal
 -- no refusal meets the piece
 taken : (s : goal.After-whole-n) → Takes (well_kept s.args.k) s.args.k.code (bytes_fed s.args.k) s.args.k.odd s.args.odd (length s.args.piece.now)
 unfolding lent_feed_refusals kept_refusal
-taken s = takes (well_kept s.args.k) s.args.k.code (bytes_fed s.args.k) s.args.k.odd s.args.odd (length s.args.piece.now) s.requires
+taken s = takes (well_kept s.args.k) s.args.k.code (bytes_fed s.args.k) s.args.k.odd s.args.odd (length s.args.piece.now) s.requires.0
 
 -- no refusal meets the piece
 taken-2 : (s : goal.Then-n-piece) → Takes (well_kept s.args.k) s.args.k.code (bytes_fed s.args.k) s.args.k.odd s.args.odd (length s.args.piece.now)
 unfolding lent_feed_refusals kept_refusal
-taken-2 s = takes (well_kept s.args.k) s.args.k.code (bytes_fed s.args.k) s.args.k.odd s.args.odd (length s.args.piece.now) s.requires
+taken-2 s = takes (well_kept s.args.k) s.args.k.code (bytes_fed s.args.k) s.args.k.odd s.args.odd (length s.args.piece.now) s.requires.0
 
 front : (w : goal.After-whole-n) → length (take w.whole-n.result w.args.piece.now) ≡ w.whole-n.result
 front w =
@@ -29,7 +29,7 @@ slice_bounds-fed-end c = sym (front c)
 pub fed-f-requires : goal.fed-f-requires
 fed-f-requires c =
     let t = taken c in
-    (t.formed, t.none_held, omega (arith, front c, c.whole-n.ensures, t.within))
+    (t.formed, omega (arith, front c, c.whole-n.ensures, t.within), omega (arith, front c, c.whole-n.ensures, c.requires.1))
 
 pub returns-then-n-piece : goal.returns-then-n-piece
 returns-then-n-piece c =
@@ -47,7 +47,7 @@ pub returns : goal.returns
 returns c =
     let a = c.args in
     let piece = a.piece.now in
-    (rw (c.ended-h.ensures, c.held.ensures, c.fed-f.ensures, c.whole-n.ensures) at c.with_held.ensures)
+    (rw (c.ended.ensures, c.held.ensures, c.fed-f.ensures, c.whole-n.ensures) at c.with_held.ensures)
     ∙ ended_held (fed a.k _) a.odd _ (fed-pending a.k _)
     ∙ not_whole (fed a.k) ended piece a.odd (λ q. c.if-n-piece.false (c.whole-n.ensures ∙ q))
     ∙ fed_by_odd a.k piece a.odd

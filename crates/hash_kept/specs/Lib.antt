@@ -1,0 +1,2 @@
+-- What C is answered of a call's `Result`.
+pub mod Answer
