@@ -1,29 +1,15 @@
-// Blocks and states as every part above handles them: the block of zeros, XOR, doubling, the tweak, the blocks that w uses, the number w, and the
-// words of a state (source, 2.2, 3.2 and 4.5).
+// Blocks and states as every part above handles them: doubling, the message's multiples, sums, the tweak, the blocks that w uses, the number w,
+// and the words of a state (source, 2.2, 3.2 and 4.5).
 #![tactic(auto)]
 
 ghost use Rattle.std.specs.Prelude.{◌≡◌, ◌≤◌, [], ◌∷◌, replicate};
-ghost use Rattle.definition.specs.Block.{zero_block, ◌⊕◌, words_of_all};
+ghost use Rattle.definition.specs.Block.{◌⊕◌, words_of_all};
 ghost use Rattle.definition.specs.Field.{double as double_of};
 ghost use Rattle.definition.specs.Permutation.{tweak as tweak_of};
 ghost use Rattle.definition.specs.Width.{block_count};
 ghost use Rattle.definition.specs.State.{five, xor_states, blocks_in, state_of};
 
 use definition::{Block, State, Width};
-
-// The block of zeros.
-pub fn zero() -> Block
-    ensures { result ≡ zero_block }
-{
-    Block::ZERO
-}
-
-// XOR, word by word.
-pub fn xor(a: Block, b: Block) -> Block
-    ensures { result ≡ a ⊕ b }
-{
-    a ^ b
-}
 
 // Multiplication by 0x02 (3.2).
 pub fn double(a: Block) -> Block

@@ -90,6 +90,16 @@ pub struct State {
     pub h4: Block,
 }
 
+impl State {
+    pub const ZERO: State = State {
+        h0: Block::ZERO,
+        h1: Block::ZERO,
+        h2: Block::ZERO,
+        h3: Block::ZERO,
+        h4: Block::ZERO,
+    };
+}
+
 // XOR, block by block.
 impl BitXor for State {
     type Output = State;

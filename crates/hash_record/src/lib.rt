@@ -90,17 +90,10 @@ fn decode(b: &[u8; LENGTH]) -> Kept
 fn nothing() -> Kept
     ensures { result ≡ nothing_of }
 {
-    let zero = blocks::zero();
     Kept {
         code: 0,
         odd: 0,
-        state: State {
-            h0: zero,
-            h1: zero,
-            h2: zero,
-            h3: zero,
-            h4: zero,
-        },
+        state: State::ZERO,
         pending: [0u8; 32],
         high: 0,
         low: 0,

@@ -39,7 +39,7 @@ pub fn block(t: &[u8]) -> Block
 {
     match t.first_chunk::<32>() {
         Some(x) => full_block(x),
-        None => blocks::zero(),
+        None => Block::ZERO,
     }
 }
 

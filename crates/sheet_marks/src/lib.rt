@@ -12,26 +12,12 @@ ghost use Rattle.sheet_marks.specs.Total.{when_used, state_at, cleared};
 use definition::{Block, State, Width};
 use sheet_definition::MARK;
 
-// The state of zeros.
-fn zeros() -> State
-    ensures { result ≡ state_of [] }
-{
-    let zero = blocks::zero();
-    State {
-        h0: zero,
-        h1: zero,
-        h2: zero,
-        h3: zero,
-        h4: zero,
-    }
-}
-
 // Eight words as a block where it is used, else zero: the words of an unused block are not read.
 fn block(used: bool, t: &[u32; 8]) -> Block
     ensures { result ≡ when_used used (block_from t.now) }
 {
     if !used {
-        return blocks::zero();
+        return Block::ZERO;
     }
     let [a0, a1, a2, a3, a4, a5, a6, a7] = *t;
     Block {
@@ -51,7 +37,7 @@ pub fn read(w: Width, marks: &[u32], m: usize) -> State
     ensures { result ≡ state_at w marks.now m }
 {
     let Some(mark) = marks.as_chunks::<MARK>().0.get(m) else {
-        return zeros();
+        return State::ZERO;
     };
     let t = mark.as_chunks::<8>().0;
     let k = blocks::count(w);

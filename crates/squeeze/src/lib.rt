@@ -17,13 +17,7 @@ use definition::{Block, Counted, State, Width};
 fn output(s: State) -> [u32; 8]
     ensures { result ≡ words_of (xor_all (five s)) }
 {
-    let z = blocks::xor(
-        s.h0,
-        blocks::xor(
-            s.h1,
-            blocks::xor(s.h2, blocks::xor(s.h3, blocks::xor(s.h4, blocks::zero()))),
-        ),
-    );
+    let z = s.h0 ^ (s.h1 ^ (s.h2 ^ (s.h3 ^ (s.h4 ^ Block::ZERO))));
     [z.a0, z.a1, z.a2, z.a3, z.a4, z.a5, z.a6, z.a7]
 }
 

@@ -10,7 +10,7 @@ use Rattle.octets.proofs.block.Goals as goal
 
 pub returns-in-None : goal.returns-in-None
 unfolding first_block block_when
-returns-in-None c = rw (lt-leb 32 _ c.in-None.ensures.cases) c.zero.ensures
+returns-in-None c = rw (lt-leb 32 _ c.in-None.ensures.cases)
 
 pub returns-in-Some : goal.returns-in-Some
 unfolding first_block block_when

@@ -6,7 +6,7 @@ use Rattle.sheet_marks.proofs.block.Goals as goal
 
 pub returns-then-not-used : goal.returns-then-not-used
 unfolding when_used
-returns-then-not-used c = rw c.if-not-used.true c.zero.ensures
+returns-then-not-used c = rw c.if-not-used.true
 
 pub returns : goal.returns
 unfolding when_used block_from

@@ -1,6 +1,6 @@
 -- `sheet_marks::read` meets its contract: five blocks where they lie, the last two where w uses them.
 -- Assumes nothing.
-use mathlib.Core.Path.{◌≡◌, ap, ◌∙◌}
+use mathlib.Core.Path.{refl, ◌≡◌, ap, ◌∙◌}
 use Prim.Native.Nat.{ℕ, ◌+◌, ◌*◌, ◌/◌, ◌≤◌}
 use native.Mathlib.Omega.{arith}
 use borrow.Author.Tests.{lt-leb}
@@ -8,6 +8,7 @@ use mathlib.Core.Bool.{true}
 use mathlib.Core.List.{List, []}
 use lib.ListN.{length, get_or}
 use Rattle.std.specs.Simd.{first_chunks}
+use Rattle.definition.specs.State.{state_of}
 use Rattle.sheet_definition.specs.Marks.{mark_at}
 use Rattle.sheet_marks.specs.Total.{when_used, state_when, state_at}
 use Rattle.sheet_marks.proofs.Total.{found, found_at}
@@ -15,11 +16,11 @@ use Rattle.sheet_marks.proofs.Chunks.{chunk_at, block_at}
 use Rattle.sheet_marks.proofs.read.Goals as goal
 
 pub returns-in_default : goal.returns-in_default
-unfolding state_at state_when
+unfolding state_at state_when state_of
 returns-in_default c =
     let a = c.args in
     let h : length a.marks.now / 40 ≤ a.m = omega (arith, c.as_chunks.ensures.front_len, c.in_default.ensures.lookup.3) in
-    rw (lt-leb (40 * (a.m + 1)) (length a.marks.now) (omega arith), c.zeros.ensures)
+    rw (lt-leb (40 * (a.m + 1)) (length a.marks.now) (omega arith)) refl
 
 pub returns : goal.returns
 unfolding found mark_at when_used

@@ -8,4 +8,4 @@ pub returns : goal.returns
 unfolding xor_all five words_of
 returns c =
     rw
-    (c.xor-z.ensures, c.xor-4.ensures, c.xor-3.ensures, c.xor-2.ensures, c.xor.ensures, c.zero.ensures)
+    (c.bitxor-z.ensures, c.bitxor-4.ensures, c.bitxor-3.ensures, c.bitxor-2.ensures, c.bitxor.ensures)
