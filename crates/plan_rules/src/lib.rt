@@ -13,14 +13,14 @@ ghost use Rattle.plan_rules.specs.Parts.{shape_rules, misshared};
 use plan_definition::{INJECTOR, LINKS_MOST, Link, PRODUCER, RATE_MOST, Rule, SHARES_TOTAL, Well};
 
 // Whether the kind breaks its rule, and whether the link count does.
-fn kind_breaks(w: Well) -> bool
-    ensures { result ≡ breaks_kind w }
+fn kind_breaks(w: &Well) -> bool
+    ensures { result ≡ breaks_kind w.now }
 {
     w.kind != PRODUCER && w.kind != INJECTOR
 }
 
-fn count_breaks(w: Well) -> bool
-    ensures { result ≡ breaks_link_count w }
+fn count_breaks(w: &Well) -> bool
+    ensures { result ≡ breaks_link_count w.now }
 {
     match w.kind {
         PRODUCER => LINKS_MOST < w.count || (w.count == 0) != (w.rate == 0),
@@ -30,8 +30,8 @@ fn count_breaks(w: Well) -> bool
 }
 
 // The first of the four rules that ask after the well's own numbers.
-fn shaped(w: Well) -> Option<Rule>
-    ensures { number_of result ≡ first_of (shape_rules w) }
+fn shaped(w: &Well) -> Option<Rule>
+    ensures { number_of result ≡ first_of (shape_rules w.now) }
 {
     if w.number == 0 {
         Some(Rule::Number)
@@ -89,19 +89,16 @@ fn some_set(links: &[Link]) -> bool
     links.iter().any(|l| *l != Link::default())
 }
 
-// Whether a record is struck (Q-11). That a well isn't is told by its number.
+// Whether a record is struck (Q-11): all but its place is that of a default. By value, since behind a reference nothing tells an array's length.
 pub fn struck(w: Well) -> bool
     ensures { result ≡ is_struck w }
 {
-    w == Well {
-        place: w.place,
-        ..Well::default()
-    }
+    Well { place: 0, ..w } == Well::default()
 }
 
 // The first rule that a well breaks, where injectors has the numbers of the sheet's injectors and seen those of the places before.
-pub fn broken(w: Well, injectors: &[u64; 1024], seen: &[u64; 1024]) -> Option<Rule>
-    ensures { number_of result ≡ first_of (rules_by (has injectors.now) (has seen.now) w) }
+pub fn broken(w: &Well, injectors: &[u64; 1024], seen: &[u64; 1024]) -> Option<Rule>
+    ensures { number_of result ≡ first_of (rules_by (has injectors.now) (has seen.now) w.now) }
 {
     let first = shaped(w);
     if first.is_some() {

@@ -23,13 +23,14 @@ use Rattle.plan_numbers.specs.Numbers.{plus}
 use Rattle.plan_numbers.proofs.Numbers.{none_has}
 use Rattle.plan_record.specs.Total.{well_in}
 use Rattle.plan_record.proofs.Total.{well_read}
+use Rattle.plan.specs.Sets.{count_of}
 use Rattle.plan.proofs.Passed.{by_sets}
 use Rattle.plan.proofs.first_broken.Goals as goal
 
 pub loop-i-init : goal.loop-i-init
 loop-i-init c =
     let a = c.args in
-    (λ k. none_has 1024 k ∙ sym (before_none a.n a.sheet.now k), ap (first_fault _) (left_all a.n a.sheet.now))
+    (λ k. none_has 1024 k ∙ sym (before_none (count_of a.records.now) a.records.now k), ap (first_fault _) (left_all (count_of a.records.now) a.records.now))
 
 -- the well that is read is the one at the place, and it is told whether it is struck
 at : (n : ℕ) (sheet : List ℕ) (i : ℕ) {w : Well} {b : Bool} → i < n → 40 * n ≤ length sheet → w ≡ well_in sheet i → b ≡ struck w
@@ -51,19 +52,19 @@ unfolding well_of
 returns-in-Some c =
     let a = c.args in
     let l = c.loop-i in
-    let here = at a.n a.sheet.now l.i c.loop-i-test.true c.requires.0 c.read-w.ensures c.struck.ensures in
-    let rule = c.in-Some.ensures ∙ by_sets _ _ _ _ _ c.requires.1 l.invariant.0 here.0 (here.1 ∙ c.if-struck.false) in
-    faulted c.in-Some.rule l.i _ ∙ (rw (sym rule) at (step a.n a.sheet.now l.i c.loop-i-test.true l.invariant.1))
+    let here = at (count_of a.records.now) a.records.now l.i c.loop-i-test.true (omega arith) c.read-w.ensures c.struck.ensures in
+    let rule = c.in-Some.ensures ∙ by_sets _ _ _ _ _ c.requires l.invariant.0 here.0 (here.1 ∙ c.if-struck.false) in
+    faulted c.in-Some.rule l.i _ ∙ (rw (sym rule) at (step (count_of a.records.now) a.records.now l.i c.loop-i-test.true l.invariant.1))
 
 pub loop-i-preserved-then-struck : goal.loop-i-preserved-then-struck
 unfolding found_at first_of has_number
 loop-i-preserved-then-struck c =
     let a = c.args in
     let l = c.loop-i in
-    let here = at a.n a.sheet.now l.i c.loop-i-test.true c.requires.0 c.read-w.ensures c.struck.ensures in
+    let here = at (count_of a.records.now) a.records.now l.i c.loop-i-test.true (omega arith) c.read-w.ensures c.struck.ensures in
     let gone = here.1 ∙ c.if-struck.true in (
-      λ k. rw (add-one l.i) (l.invariant.0 k ∙ sym (rw gone at (before-step a.n a.sheet.now l.i k c.loop-i-test.true))),
-      rw (add-one l.i) (rw (exempt_rules _ _ gone) at (step a.n a.sheet.now l.i c.loop-i-test.true l.invariant.1)),
+      λ k. rw (add-one l.i) (l.invariant.0 k ∙ sym (rw gone at (before-step (count_of a.records.now) a.records.now l.i k c.loop-i-test.true))),
+      rw (add-one l.i) (rw (exempt_rules _ _ gone) at (step (count_of a.records.now) a.records.now l.i c.loop-i-test.true l.invariant.1)),
     )
 
 pub loop-i-preserved : goal.loop-i-preserved
@@ -71,12 +72,12 @@ unfolding plus found_at has_number well_of
 loop-i-preserved c =
     let a = c.args in
     let l = c.loop-i in
-    let here = at a.n a.sheet.now l.i c.loop-i-test.true c.requires.0 c.read-w.ensures c.struck.ensures in
+    let here = at (count_of a.records.now) a.records.now l.i c.loop-i-test.true (omega arith) c.read-w.ensures c.struck.ensures in
     let stands = here.1 ∙ c.if-struck.false in
-    let rule = c.in_default.ensures ∙ by_sets _ _ _ _ _ c.requires.1 l.invariant.0 here.0 stands in (
+    let rule = c.in_default.ensures ∙ by_sets _ _ _ _ _ c.requires l.invariant.0 here.0 stands in (
       λ k. rw (add-one l.i) (ap (λ (f : ℕ → Bool). f k) c.put.ensures ∙ (λ j. eqb (here.0 j).number k || l.invariant.0 k j)
-          ∙ sym (rw stands at (before-step a.n a.sheet.now l.i k c.loop-i-test.true))),
-      rw (add-one l.i) (rw (sym rule) at (step a.n a.sheet.now l.i c.loop-i-test.true l.invariant.1)),
+          ∙ sym (rw stands at (before-step (count_of a.records.now) a.records.now l.i k c.loop-i-test.true))),
+      rw (add-one l.i) (rw (sym rule) at (step (count_of a.records.now) a.records.now l.i c.loop-i-test.true l.invariant.1)),
     )
 
 pub returns : goal.returns
@@ -84,5 +85,5 @@ unfolding first_fault
 returns c =
     let l = c.loop-i in
     let a = c.args in
-    let e : l.i ≡ a.n = omega arith in
-    rw (left_none a.n a.sheet.now) at (rw e at l.invariant.1)
+    let e : l.i ≡ count_of a.records.now = omega arith in
+    rw (left_none (count_of a.records.now) a.records.now) at (rw e at l.invariant.1)

@@ -5,7 +5,6 @@ use mathlib.Core.Bool.{Bool, true, false, not, beq, ◌&&◌, ◌||◌}
 use mathlib.Core.List.{List, [], ◌∷◌}
 use Prim.Native.Nat.{ℕ, zero, suc}
 use native.Mathlib.Omega.{arith}
-use borrow.Author.Tests.{eq-eqb}
 use lib.Dec.{eqb}
 use lib.ListN.{length, replicate}
 use lib.Pointwise.{pointwise}
@@ -40,7 +39,7 @@ returns c =
     let w = c.args.w in
     let d = c.default.ensures in
     rw (
-      eq-eqb w.place w.place refl,
+      d.0,
       d.1.0,
       d.1.1.0,
       d.1.1.1.0,
