@@ -1,47 +1,23 @@
--- Eight words from a place on are the block that is read there; and a block's words as they are read bit by bit.
+-- A block's words as they are read, column by column and bit by bit; and what a call with a code is refused for.
 -- Assumes nothing.
 use mathlib.Core.Path.{◌≡◌, refl, sym, ap, ◌∙◌}
-use mathlib.Core.List.{List, ◌++◌}
+use mathlib.Core.List.{List, [], ◌∷◌, ◌++◌}
 use Prim.Native.Nat.{ℕ, suc, ◌+◌, ◌*◌, ◌%◌, ◌^◌, ◌<◌, ◌≤◌}
-use native.Mathlib.Nat.{add-zero, mul-suc, mul-le-mul_right, mod-eq_of_lt, pow-suc}
+use native.Mathlib.Nat.{mul-suc, mul-le-mul_right, mod-eq_of_lt, pow-suc}
 use native.Mathlib.Numerals.{add-one}
 use native.Mathlib.Omega.{arith}
 use lib.ListN.{length, get_or, drop, get_or-append}
 use lib.Pow.{pow_mono}
 use lib.Seq.{get_or-drop, drop_at, drop-drop, ext_get_or}
-use Rattle.definition.specs.declared.Block.{Block}
+use Rattle.definition.specs.declared.Width.{Width}
 use Rattle.definition.specs.Word.{bit, from_bits}
-use Rattle.definition.specs.Block.{words_of, block_from}
+use Rattle.definition.specs.Block.{words_of}
+use Rattle.definition.specs.Refusal.{first_of, width_refusal}
+use Rattle.definition.specs.Width.{width_at, block_count}
 use Rattle.definition.proofs.Bits.{bit_lt, from_bits-lt}
 use Rattle.columns_definition.specs.Dump.{block_to, block_at}
+use Rattle.columns_definition.specs.Columns.{blocks_at, columns_refusal, words_refusals}
 use Rattle.columns_definition.proofs.Dumps.{word_to}
-
-pub eight : (i : ℕ) (ws : List ℕ)
-    → ◌≡◌ {A = Block}
-    (record {
-      a0 = get_or ws i 0;
-      a1 = get_or ws (i + 1) 0;
-      a2 = get_or ws (i + 2) 0;
-      a3 = get_or ws (i + 3) 0;
-      a4 = get_or ws (i + 4) 0;
-      a5 = get_or ws (i + 5) 0;
-      a6 = get_or ws (i + 6) 0;
-      a7 = get_or ws (i + 7) 0;
-    })
-    (block_from (drop i ws))
-unfolding block_from
-eight i ws =
-    λ p.
-    record {
-      a0 = (ap (λ (n : ℕ). get_or ws n 0) (sym (add-zero i)) ∙ sym (get_or-drop i ws 0 0)) p;
-      a1 = sym (get_or-drop i ws 1 0) p;
-      a2 = sym (get_or-drop i ws 2 0) p;
-      a3 = sym (get_or-drop i ws 3 0) p;
-      a4 = sym (get_or-drop i ws 4 0) p;
-      a5 = sym (get_or-drop i ws 5 0) p;
-      a6 = sym (get_or-drop i ws 6 0) p;
-      a7 = sym (get_or-drop i ws 7 0) p;
-    }
 
 -- a bit above l others makes no more than a word
 pub bit_fits : (y l a : ℕ) → y < 2 → l < 32 → a < 2 ^ l → y * 2 ^ l + a < 2 ^ 32
@@ -86,3 +62,14 @@ next_byte n l j d column rest e s h =
 pub next_rest : (n l : ℕ) (d column rest : List ℕ) → drop (n * l) d ≡ column ++ rest → length column ≡ n → rest ≡ drop (n * (l + 1)) d
 next_rest n l d column rest e s =
     sym (drop_at column rest n s) ∙ ap (drop n) (sym e) ∙ drop-drop n (n * l) d ∙ ap (λ (i : ℕ). drop i d) (rw (add-one l) (sym (mul-suc n l)))
+
+-- of a call at a code's w and so many blocks
+module _ (code : ℕ) {w : Width} {n : ℕ} (k : w ≡ width_at code) (e : n ≡ block_count w) where
+  pub count : n ≡ blocks_at code
+  unfolding blocks_at
+  count = rw k at e
+
+  -- its number is that of its refusals
+  pub judged : {number : ℕ} (d l : ℕ) → number ≡ first_of (width_refusal code ∷ columns_refusal d (32 * blocks_at code) l (8 * n) ∷ []) → number ≡ first_of (words_refusals code d l)
+  unfolding words_refusals
+  judged d l f = rw count at f

@@ -10,39 +10,21 @@ ghost use Rattle.columns_definition.specs.Dump.{column, dump as dump_of, block_a
 ghost use Rattle.refusals.specs.Number.{number_of};
 ghost use Rattle.columns_definition.specs.Columns.{from_words_outcome, to_words_outcome, from_message_outcome};
 
-use definition::Block;
 use refusals::Refusal;
 
-// A block's byte at position l: bit k is bit l of word k.
-fn element(b: Block, l: usize) -> u8
-    requires { l < 32 }
-    ensures { result ≡ element_of l b }
+// A block's byte at position l, by its words: bit k is bit l of word k.
+fn element(b: &[u32], l: usize) -> u8
+    requires { (length b.now ≡ 8) × (l < 32) }
+    ensures { result ≡ element_of l (block_from b.now) }
 {
-    let x7 = (b.a7 >> l) % 2;
-    let x6 = x7 * 2 + (b.a6 >> l) % 2;
-    let x5 = x6 * 2 + (b.a5 >> l) % 2;
-    let x4 = x5 * 2 + (b.a4 >> l) % 2;
-    let x3 = x4 * 2 + (b.a3 >> l) % 2;
-    let x2 = x3 * 2 + (b.a2 >> l) % 2;
-    let x1 = x2 * 2 + (b.a1 >> l) % 2;
-    (x1 * 2 + (b.a0 >> l) % 2) as u8
-}
-
-// Block j of words.
-fn block(words: &[u32], j: usize) -> Block
-    requires { 8 * j + 8 ≤ length words.now }
-    ensures { result ≡ block_from (drop (8 * j) words.now) }
-{
-    Block {
-        a0: words[8 * j],
-        a1: words[8 * j + 1],
-        a2: words[8 * j + 2],
-        a3: words[8 * j + 3],
-        a4: words[8 * j + 4],
-        a5: words[8 * j + 5],
-        a6: words[8 * j + 6],
-        a7: words[8 * j + 7],
-    }
+    let x7 = (b[7] >> l) % 2;
+    let x6 = x7 * 2 + (b[6] >> l) % 2;
+    let x5 = x6 * 2 + (b[5] >> l) % 2;
+    let x4 = x5 * 2 + (b[4] >> l) % 2;
+    let x3 = x4 * 2 + (b[3] >> l) % 2;
+    let x2 = x3 * 2 + (b[2] >> l) % 2;
+    let x1 = x2 * 2 + (b[1] >> l) % 2;
+    (x1 * 2 + (b[0] >> l) % 2) as u8
 }
 
 // The bytes of n blocks of words at position l.
@@ -50,8 +32,8 @@ fn put_position(words: &[u32], n: usize, l: usize, dump: &mut [u8])
     requires { (n ≤ 5) × (l < 32) × (length words.now ≡ 8 * n) × (length dump.old ≡ 32 * n) }
     ensures { dump.new ≡ overwrite_at (n * l) (column l (blocks_of n words.now)) dump.old }
 {
-    for j in 0..n {
-        dump[n * l + j] = element(block(words, j), l);
+    for (j, block) in words.chunks_exact(8).enumerate() {
+        dump[n * l + j] = element(block, l);
     }
 }
 

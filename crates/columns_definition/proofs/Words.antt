@@ -25,7 +25,7 @@ words-rows (suc n) f =
     words_append (up_to n f) (f n ∷ []) ∙ rw (words-rows n f) (unfold words_of_all in rw (append-nil (words_of (f n))))
 
 -- a block is read from the first eight words, which are its words
-first_eight : (l : List ℕ) → block_from l ≡ block_from (take 8 l)
+pub first_eight : (l : List ℕ) → block_from l ≡ block_from (take 8 l)
 unfolding block_from
 first_eight l = rw (at 0 tt, at 1 tt, at 2 tt, at 3 tt, at 4 tt, at 5 tt, at 6 tt, at 7 tt)
   where

@@ -1,7 +1,7 @@
 // Injection on a dump by columns (document 02, Q-12): the matrices of the source, 3.2.1 to 3.2.3, at each of the 32 positions, by the product tables.
 #![tactic(auto)]
 
-ghost use Rattle.std.specs.Prelude.{◌≡◌, ◌+◌, ◌*◌, ◌≤◌, [], ◌∷◌, ◌++◌, length, map};
+ghost use Rattle.std.specs.Prelude.{◌≡◌, ◌*◌, ◌≤◌, [], ◌∷◌, ◌++◌, length, map};
 ghost use Rattle.definition.specs.Field.{product};
 ghost use Rattle.definition.specs.Width.{block_count};
 ghost use Rattle.columns_definition.specs.Columns.{row_sum, inject_dump, inject_outcome};
@@ -10,6 +10,7 @@ ghost use Rattle.refusals.specs.Number.{number_of};
 
 use definition::Width;
 use refusals::Refusal;
+
 // The coefficients of the matrices, in the order of their tables.
 #[derive(Clone, Copy)]
 enum Coefficient {
@@ -50,6 +51,7 @@ const AT_5: [([Coefficient; 5], Coefficient); 5] = [
 ];
 
 impl Coefficient {
+    // A byte times the coefficient.
     fn times(self, x: u8) -> u8
         ensures { result ≡ product (number self) x }
     {

@@ -1,30 +1,16 @@
 -- `columns::to_words` meets its contract: past its refusals the words of the dump are written.
 -- Assumes nothing.
-use mathlib.Core.Path.{◌≡◌, refl, sym, ap, ◌∙◌}
-use mathlib.Core.List.{[], ◌∷◌}
-use Prim.Native.Nat.{ℕ, ◌*◌}
+use mathlib.Core.Path.{refl, sym, ap, ◌∙◌}
 use native.Mathlib.Omega.{arith}
-use Rattle.definition.specs.declared.Width.{Width}
-use Rattle.definition.specs.Refusal.{first_of, width_refusal}
-use Rattle.definition.specs.Width.{width_at, block_count}
+use Rattle.definition.specs.Width.{width_at}
 use Rattle.definition.proofs.Chain.{count_le}
 use Rattle.hash_definition.specs.Said.{done}
 use Rattle.hash_definition.proofs.Refused.{refused, accepted}
 use Rattle.refusals.proofs.Judged.{handed_on, isnt_done}
-use Rattle.columns_definition.specs.Columns.{blocks_at, columns_refusal, words_refusals, to_words_outcome}
+use Rattle.columns_definition.specs.Columns.{blocks_at, words_refusals, to_words_outcome}
 use Rattle.columns_definition.proofs.Calls.{due}
+use Rattle.columns.proofs.Parts.{count, judged}
 use Rattle.columns.proofs.to_words.Goals as goal
-
--- of a call at a code's w and so many blocks
-module _ (code : ℕ) {w : Width} {n : ℕ} (k : w ≡ width_at code) (e : n ≡ block_count w) where
-  count : n ≡ blocks_at code
-  unfolding blocks_at
-  count = rw k at e
-
-  -- its number is that of its refusals
-  judged : {number : ℕ} (d l : ℕ) → number ≡ first_of (width_refusal code ∷ columns_refusal d (32 * blocks_at code) l (8 * n) ∷ []) → number ≡ first_of (words_refusals code d l)
-  unfolding words_refusals
-  judged d l f = rw count at f
 
 pub returns-in_err-refusal : goal.returns-in_err-refusal
 unfolding to_words_outcome
