@@ -1,15 +1,12 @@
 -- `sheet_work::work_on` meets its contract. The loop's invariant: what is still to come from mark k is what was to come from mark m.
 -- Assumes nothing.
-use mathlib.Core.Path.{refl, ◌∙◌}
+use mathlib.Core.Path.{◌∙◌}
 use Prim.Native.Nat.{◌+◌}
 use native.Mathlib.Omega.{arith}
 use Rattle.sheet_definition.specs.Sheet.{q}
 use Rattle.sheet_marks.proofs.Total.{read_at, written_at}
 use Rattle.sheet_work.proofs.Groups.{group-on, all_worked}
 use Rattle.sheet_work.proofs.work_on.Goals as goal
-
-pub loop-k-init : goal.loop-k-init
-loop-k-init c = (refl, refl)
 
 pub loop-k-preserved : goal.loop-k-preserved
 unfolding q
@@ -41,7 +38,3 @@ returns c =
       marks_after = z.1.0;
       out_after = z.1.1;
     }
-
-pub shape_of-marks : goal.shape_of-marks
-shape_of-marks c =
-    c.loop-k.invariant.0
