@@ -35,6 +35,7 @@ fn gather(sheet: &mut [u8], n: usize, places: &mut [u16]) -> usize
         let at = RECORD * i;
         if !sheet_struck::zeros(&sheet[at..at + RECORD]) {
             sheet.copy_within(at..at + RECORD, RECORD * count);
+            // a place is under 1,024, so nothing is cut
             places[count] = i as u16;
             count += 1;
         }

@@ -38,14 +38,3 @@ loop-i-preserved c =
           (moved _ _ _ _ _ _ r' p' v (sym (asked c) ∙ s.if-not-zeros.true) p)
       | else-not-zeros s ↦ rw (s.sheet-is, s.places-is, s.count-is) (passed _ _ _ _ _ _ r' p' v (sym (asked c) ∙ s.if-not-zeros.false))
     ]))
-
-pub returns : goal.returns
-returns c =
-    let l = c.loop-i in
-    let e : l.i ≡ c.args.n = omega arith in
-    let g = rw e at l.invariant.2 in
-    record {
-      value = g.counted;
-      sheet_after = g.sheet_is;
-      places_after = g.places_are;
-    }
