@@ -1,97 +1,9 @@
-// The refusal numbers of documents 01 and 02, how judgements are joined into a call's list, and the two refusals that calls of every family
-// begin with.
+// The refusals of documents 01 and 02, how judgements are joined into a call's list, and the two refusals that calls of every family begin with.
 #![tactic(auto)]
 
 ghost use Rattle.std.specs.Prelude.{◌≡◌, [], ◌∷◌, ◌*◌};
 ghost use Rattle.definition.specs.Refusal.{first_of, when_done, width_refusal, out_refusal};
 ghost use Rattle.refusals.specs.Number.{number, number_of};
-
-pub const DONE: u32 = 0;
-
-pub const WIDTH: u32 = 1;
-
-pub const OUT: u32 = 2;
-
-pub const RECORD: u32 = 3;
-
-pub const LONG: u32 = 4;
-
-pub const SHEET: u32 = 5;
-
-pub const MARKS: u32 = 6;
-
-pub const PLACE: u32 = 7;
-
-pub const FULL: u32 = 8;
-
-pub const SIZE: u32 = 9;
-
-pub const CLAIM: u32 = 10;
-
-pub const STALE: u32 = 11;
-
-pub const WORDS: u32 = 12;
-
-pub const BATCH: u32 = 13;
-
-pub const SET: u32 = 14;
-
-pub const OWN: u32 = 15;
-
-pub const STALE_TAIL: u32 = 16;
-
-pub const ODD: u32 = 17;
-
-pub const BACK: u32 = 18;
-
-pub const HOPS: u32 = 19;
-
-pub const UNSOUND: u32 = 20;
-
-pub const WELL: u32 = 21;
-
-pub const REACH: u32 = 22;
-
-pub const PLACES: u32 = 23;
-
-pub const COLUMNS: u32 = 24;
-
-pub const LIST: u32 = 25;
-
-// A refusal judged: its number where its condition holds, else 0.
-pub fn when(holds: bool, number: u32) -> u32
-    ensures { result ≡ first_of ((number, holds) ∷ []) }
-{
-    if holds {
-        return number;
-    }
-    DONE
-}
-
-// Two judgements in their order: the first that isn't 0.
-pub fn first(a: u32, b: u32) -> u32
-    ensures { result ≡ when_done a b a }
-{
-    if a == DONE {
-        return b;
-    }
-    a
-}
-
-// 1: a code argument isn't 1 to 4.
-pub fn width(code: usize) -> u32
-    ensures { result ≡ first_of (width_refusal code ∷ []) }
-{
-    when(!codes::known(code), WIDTH)
-}
-
-// 2: the output buffer has under four bytes for each word that is put into it. Its length is divided and the words aren't multiplied, so that
-// nothing wraps.
-pub fn out(words: usize, out: usize) -> u32
-    ensures { result ≡ first_of (out_refusal (4 * words) out ∷ []) }
-{
-    when(out / 4 < words, OUT)
-}
 
 // Why a call is refused: documents 01 and 02 say each by a number, which C is answered with.
 #[derive(Clone, Copy, Debug, PartialEq, Eq)]
@@ -131,16 +43,6 @@ impl From<Refusal> for u32 {
     }
 }
 
-// What C is answered: the number of the refusal, or 0.
-pub fn number_of(judged: Result<(), Refusal>) -> u32
-    ensures { result ≡ number_of judged }
-{
-    match judged {
-        Ok(()) => DONE,
-        Err(r) => u32::from(r),
-    }
-}
-
 impl Refusal {
     // Refused for this where a condition holds.
     pub fn when(self, holds: bool) -> Result<(), Refusal>
@@ -148,6 +50,23 @@ impl Refusal {
     {
         if holds { Err(self) } else { Ok(()) }
     }
+}
+
+// What C is answered: the number of the refusal, or 0.
+pub fn number_of(judged: Result<(), Refusal>) -> u32
+    ensures { result ≡ number_of judged }
+{
+    match judged {
+        Ok(()) => 0,
+        Err(r) => u32::from(r),
+    }
+}
+
+// Two judgements in their order: the first that refuses.
+pub fn in_turn(a: Result<(), Refusal>, b: Result<(), Refusal>) -> Result<(), Refusal>
+    ensures { number_of result ≡ when_done (number_of a) (number_of b) (number_of a) }
+{
+    a.and(b)
 }
 
 // 1: a code argument isn't 1 to 4.
@@ -163,11 +82,4 @@ pub fn room(words: usize, out: usize) -> Result<(), Refusal>
     ensures { number_of result ≡ first_of (out_refusal (4 * words) out ∷ []) }
 {
     Refusal::Out.when(out / 4 < words)
-}
-
-// Two judgements in their order: the first that refuses.
-pub fn in_turn(a: Result<(), Refusal>, b: Result<(), Refusal>) -> Result<(), Refusal>
-    ensures { number_of result ≡ when_done (number_of a) (number_of b) (number_of a) }
-{
-    a.and(b)
 }

@@ -12,20 +12,6 @@ use refusals::Refusal;
 use sheet_definition::{MARK, MOST, RECORD};
 
 // 5: whether the buffer holds n records, at most 1,024. Lengths are divided and n isn't multiplied, so that nothing wraps.
-pub fn records(n: usize, sheet: usize) -> u32
-    ensures { result ≡ first_of (sheet_refusal n sheet ∷ []) }
-{
-    refusals::when((MOST < n) | (sheet / RECORD < n), refusals::SHEET)
-}
-
-// 6: whether there is room for the marks of n records.
-pub fn marks_room(n: usize, marks: usize) -> u32
-    ensures { result ≡ first_of (marks_refusal n marks ∷ []) }
-{
-    refusals::when(marks / MARK <= n / 4, refusals::MARKS)
-}
-
-// 5: whether the buffer holds n records, at most 1,024. Lengths are divided and n isn't multiplied, so that nothing wraps.
 pub fn has_records(n: usize, sheet: usize) -> Result<(), Refusal>
     ensures { number_of result ≡ first_of (sheet_refusal n sheet ∷ []) }
 {
