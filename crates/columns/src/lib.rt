@@ -32,6 +32,7 @@ fn put_position(words: &[u32], n: usize, l: usize, dump: &mut [u8])
     requires { (n ≤ 5) × (l < 32) × (length words.now ≡ 8 * n) × (length dump.old ≡ 32 * n) }
     ensures { dump.new ≡ overwrite_at (n * l) (column l (blocks_of n words.now)) dump.old }
 {
+    // Written by place: what is written through a zip with iter_mut isn't known to a proof.
     for (j, block) in words.chunks_exact(8).enumerate() {
         dump[n * l + j] = element(block, l);
     }
@@ -42,6 +43,7 @@ fn put_dump(words: &[u32], n: usize, dump: &mut [u8])
     requires { (n ≤ 5) × (length words.now ≡ 8 * n) × (length dump.old ≡ 32 * n) }
     ensures { dump.new ≡ dump_of (blocks_of n words.now) }
 {
+    // A range: what is written through chunks_exact_mut isn't known to a proof.
     for l in 0..32usize {
         put_position(words, n, l, dump);
     }
@@ -74,6 +76,7 @@ fn put_blocks(dump: &[u8], n: usize, words: &mut [u32])
     requires { (n ≤ 5) × (length dump.now ≡ 32 * n) × (length words.old ≡ 8 * n) }
     ensures { words.new ≡ words_of_all (undump n dump.now) }
 {
+    // A range: what is written through chunks_exact_mut isn't known to a proof.
     for j in 0..n {
         words[8 * j..8 * j + 8].copy_from_slice(&words_at(dump, n, j));
     }

@@ -80,6 +80,7 @@ fn mixed<const W: usize>(
     requires { length column.now ≡ W }
     ensures { result ≡ map (λ cs. row_sum cs (column.now ++ m ∷ [])) (map numbers matrix.now) }
 {
+    // Written by place: what is written through a zip with iter_mut isn't known to a proof.
     let mut sums = [0; W];
     for (j, (row, last)) in matrix.iter().enumerate() {
         sums[j] = sum(row, *last, column, m);
@@ -96,6 +97,7 @@ fn inject_by<const W: usize>(
     requires { (W ≤ 5) × (length dump.old ≡ 32 * W) × (length message.now ≡ 32) }
     ensures { dump.new ≡ injected (map numbers matrix.now) W dump.old message.now }
 {
+    // Read and written by place: what is written through chunks_exact_mut isn't known to a proof.
     for (l, m) in message.iter().enumerate() {
         let column = mixed(matrix, &dump[W * l..W * l + W], *m);
         dump[W * l..W * l + W].copy_from_slice(&column);
