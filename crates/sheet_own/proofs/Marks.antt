@@ -4,7 +4,7 @@ use mathlib.Core.Path.{◌≡◌, ap}
 use mathlib.Core.Bool.{true, false, not}
 use mathlib.Core.List.{List}
 use Prim.Native.Nat.{ℕ, suc, ◌+◌, ◌-◌, ◌*◌, ◌<◌, ◌≤◌}
-use native.Mathlib.Nat.{add-zero, zero-add}
+use native.Mathlib.Nat.{add-zero}
 use native.Mathlib.Omega.{arith}
 use lib.ListN.{length}
 use borrow.Author.Tests.{not-true, not-false}
@@ -29,11 +29,6 @@ words-read w marks m h = ap (λ (s : State). words_of_all (five s)) (read_at mar
 -- so many pairs before
 abbrev pub before : (pairs : ℕ) → Where → Where
 before pairs v = record { found = v.found; pairs = pairs + v.pairs }
-
-pub begins : (code : ℕ) (held own : List ℕ) (last : ℕ) → before 0 (compared code held own (last - 0) 0) ≡ compared code held own last 0
-begins code held own last =
-    let e : last - 0 ≡ last = omega arith in
-    rw (e, zero-add (compared code held own last 0).pairs)
 
 module _ (code : ℕ) (held own : List ℕ) (last g pairs : ℕ) (h : g < last) where
   left : last - g ≡ suc (last - (g + 1))

@@ -73,7 +73,3 @@ overflow_mul-place c =
     let w : World = record { code = a.code; n = a.n; sheet = a.sheet.now; marks = a.marks.now } in
     let g = goes w a.place a.count a.«record».now a.claim.now a.out.now c.in_ok-before.ensures.value refl in
     omega (arith, (c.requires g.0).record-room)
-
-pub admit-requires : goal.admit-requires
-admit-requires c z =
-    let j = c.requires z in (j.few, j.sheet-room, j.marks-room, j.claim-size)

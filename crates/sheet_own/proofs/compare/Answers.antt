@@ -10,11 +10,8 @@ use Rattle.definition.specs.Width.{width_at}
 use Rattle.definition.specs.Buffer.{same}
 use Rattle.sheet_definition.specs.Marks.{mark_at, state_from, mark_of}
 use Rattle.sheet_definition.specs.Own.{used}
-use Rattle.sheet_own.proofs.Marks.{begins, goes_on, stops, ends}
+use Rattle.sheet_own.proofs.Marks.{goes_on, stops, ends}
 use Rattle.sheet_own.proofs.compare.Goals as goal
-
-pub loop-g-init : goal.loop-g-init
-loop-g-init c = let a = c.args in begins a.code a.held.now a.own.now a.last
 
 -- whether the next pair differs, by the code's blocks
 said : {b : Bool} {w : Width} (code g : ℕ) (held own : List ℕ)
@@ -38,7 +35,3 @@ returns c =
     let a = c.args in
     let e : c.loop-g.g ≡ a.last = omega arith in
     sym (ends a.code a.held.now a.own.now a.last) ∙ (rw e at c.loop-g.invariant)
-
-pub other-requires : goal.other-requires
-other-requires c =
-    (omega arith, omega arith)
