@@ -26,10 +26,7 @@ pub fn build(
     sheet_judge::build(code, sheet.len(), n, marks.len(), out.len())?;
     sheet_marks::write(marks, 0, rounds::start(codes::width(code)));
     let rounds = sheet_work::work_on(code, sheet, n, marks, 0, 0, out);
-    Ok(Saved {
-        count: n,
-        rounds: rounds,
-    })
+    Ok(Saved { count: n, rounds })
 }
 
 // A save of one record, by what its arguments were judged to be: the record written at its place, from n records to count, where the
@@ -53,10 +50,7 @@ fn save(
     octets::put_bytes(sheet, RECORD * place, record);
     sheet_marks::clear(marks, n, count);
     let rounds = sheet_work::work_on(code, sheet, count, marks, place / 4, before, out);
-    Ok(Saved {
-        count: count,
-        rounds: rounds,
-    })
+    Ok(Saved { count, rounds })
 }
 
 // A record replaced, where the claim is the digest of the sheet held.

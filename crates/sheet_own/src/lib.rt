@@ -33,7 +33,7 @@ impl From<Refusal> for Strayed {
 
     fn from(refusal: Refusal) -> Strayed {
         Strayed {
-            refusal: refusal,
+            refusal,
             rounds: 0,
             place: Where {
                 found: Found::Same,
@@ -86,6 +86,7 @@ fn compare(code: usize, held: &[u32], own: &[u32], last: usize) -> Where
 }
 
 // Why a stale save is turned away: 11 where a group is named, 16 where all shared marks agree.
+// Found isn't an Option: Same says that all shared marks agree, where None would say that nothing was found.
 fn stale(found: Found) -> Refusal
     ensures { number result ≡ stale_as found }
 {
@@ -114,13 +115,14 @@ fn locate(
             Err(Strayed {
                 refusal: stale(place.found),
                 rounds: turned.rounds,
-                place: place,
+                place,
             })
         }
     }
 }
 
-// A record replaced, by a planner who brings his own marks.
+// A record replaced, by a planner who brings his own marks. Each kind of save is lent other things: over an enum of kinds each would have two
+// arms, one that judges and one that saves.
 pub fn change(
     code: usize,
     sheet: &mut [u8],
@@ -219,8 +221,8 @@ pub fn answer(n: usize, saved: Result<Saved, Strayed>) -> LocatedAnswer
                 number: u32::from(strayed.refusal) as u64,
                 count: n as u64,
                 rounds: strayed.rounds,
-                kind: kind,
-                group: group,
+                kind,
+                group,
                 pairs: strayed.place.pairs,
             }
         }

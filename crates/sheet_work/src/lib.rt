@@ -34,10 +34,7 @@ impl From<Refusal> for Turned {
     ghost from_gives = { λ r t. t ≡ record { refusal = r; rounds = 0 } };
 
     fn from(refusal: Refusal) -> Turned {
-        Turned {
-            refusal: refusal,
-            rounds: 0,
-        }
+        Turned { refusal, rounds: 0 }
     }
 }
 
@@ -61,6 +58,7 @@ pub fn answer(n: usize, saved: Result<Saved, Turned>) -> Answer
 
 // From mark m as found to the end of n records: the marks after m are written on the way, and the digest into the front of out. The count
 // goes on from the rounds that were run before.
+// Code, sheet, n and marks stay parameters: `admit` is handed them before it is known that they fit, so no type can say so.
 pub fn work_on(
     code: usize,
     sheet: &[u8],
@@ -111,7 +109,7 @@ fn check(
     }
     Err(Turned {
         refusal: Refusal::Stale,
-        rounds: rounds,
+        rounds,
     })
 }
 
