@@ -29,11 +29,13 @@ unfolding save_of refusals_of
 save-requires c =
     let a = c.args in
     let w : World = record { code = a.code; n = a.n; sheet = a.sheet.now; marks = a.marks.now } in
-    judged w (Append a.«record».now) a.claim.now a.out.now _ _ _ c.append-judged.ensures (one w a.«record».now a.claim.now a.out.now c.saturating_add-more.ensures c.append-judged.ensures)
+    let e = c.append-judged.ensures in
+    judged w (Append a.«record».now) a.claim.now a.out.now _ _ _ e (one w a.«record».now a.claim.now a.out.now c.saturating_add-more.ensures e)
 
 pub returns : goal.returns
 unfolding save_of refusals_of
 returns c =
     let a = c.args in
     let w : World = record { code = a.code; n = a.n; sheet = a.sheet.now; marks = a.marks.now } in
-    saved w (Append a.«record».now) a.claim.now a.out.now _ _ _ c.append-judged.ensures (one w a.«record».now a.claim.now a.out.now c.saturating_add-more.ensures c.append-judged.ensures) c.save.ensures
+    let e = c.append-judged.ensures in
+    saved w (Append a.«record».now) a.claim.now a.out.now _ _ _ e (one w a.«record».now a.claim.now a.out.now c.saturating_add-more.ensures e) c.save.ensures

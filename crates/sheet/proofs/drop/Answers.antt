@@ -28,11 +28,13 @@ unfolding save_of refusals_of
 save-requires c =
     let a = c.args in
     let w : World = record { code = a.code; n = a.n; sheet = a.sheet.now; marks = a.marks.now } in
-    judged w Drop a.claim.now a.out.now _ _ _ c.drop-judged.ensures (one w a.claim.now a.out.now c.saturating_sub-last.ensures c.drop-judged.ensures)
+    let e = c.drop-judged.ensures in
+    judged w Drop a.claim.now a.out.now _ _ _ e (one w a.claim.now a.out.now c.saturating_sub-last.ensures e)
 
 pub returns : goal.returns
 unfolding save_of refusals_of
 returns c =
     let a = c.args in
     let w : World = record { code = a.code; n = a.n; sheet = a.sheet.now; marks = a.marks.now } in
-    saved w Drop a.claim.now a.out.now _ _ _ c.drop-judged.ensures (one w a.claim.now a.out.now c.saturating_sub-last.ensures c.drop-judged.ensures) c.save.ensures
+    let e = c.drop-judged.ensures in
+    saved w Drop a.claim.now a.out.now _ _ _ e (one w a.claim.now a.out.now c.saturating_sub-last.ensures e) c.save.ensures

@@ -23,12 +23,14 @@ said code g held own e f = rw (e, f)
 pub returns-then-other : goal.returns-then-other
 returns-then-other c =
     let a = c.args in
-    sym (stops a.code a.held.now a.own.now a.last c.loop-g.g c.loop-g.g (omega arith) (sym (said a.code c.loop-g.g a.held.now a.own.now c.other.ensures c.width-used.ensures) ∙ c.if-other.true)) ∙ c.loop-g.invariant
+    let d = said a.code c.loop-g.g a.held.now a.own.now c.other.ensures c.width-used.ensures in
+    sym (stops a.code a.held.now a.own.now a.last c.loop-g.g c.loop-g.g (omega arith) (sym d ∙ c.if-other.true)) ∙ c.loop-g.invariant
 
 pub loop-g-preserved : goal.loop-g-preserved
 loop-g-preserved c =
     let a = c.args in
-    sym (goes_on a.code a.held.now a.own.now a.last c.loop-g.g c.loop-g.g (omega arith) (sym (said a.code c.loop-g.g a.held.now a.own.now c.other.ensures c.width-used.ensures) ∙ c.if-other.false)) ∙ c.loop-g.invariant
+    let d = said a.code c.loop-g.g a.held.now a.own.now c.other.ensures c.width-used.ensures in
+    sym (goes_on a.code a.held.now a.own.now a.last c.loop-g.g c.loop-g.g (omega arith) (sym d ∙ c.if-other.false)) ∙ c.loop-g.invariant
 
 pub returns : goal.returns
 returns c =
