@@ -245,9 +245,7 @@ pub fn luffa_sheet_change_own(
     ensures marks_after { marks.new ≡ (own_outcome (record { code = code; n = n; sheet = sheet.old; marks = marks.old }) (Change place «record».now) claim.now owned own.now out.old).marks }
     ensures out_after { out.new ≡ (own_outcome (record { code = code; n = n; sheet = sheet.old; marks = marks.old }) (Change place «record».now) claim.now owned own.now out.old).out }
 {
-    let saved = sheet_own::change(
-        code, sheet, n, marks, place, record, claim, owned, own, out,
-    );
+    let saved = sheet_own::change(code, sheet, n, marks, place, record, claim, owned, own, out);
     sheet_own::answer(n, saved)
 }
 
