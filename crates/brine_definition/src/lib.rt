@@ -6,7 +6,8 @@ pub const SHEETS_MOST: usize = 64;
 
 pub const KILOGRAMS: u64 = 1000;
 
-// The refusal's number, and over a batch: sheets sound, sheets faulted, total intake in kilograms a day, injectors overloaded.
+// The refusal's number, and over a batch: sheets sound, sheets faulted, total intake in kilograms a day, injectors overloaded. C is answered with
+// this struct, so the number stands beside the figures.
 #[repr(C)]
 #[derive(Clone, Copy, Default)]
 pub struct Statement {

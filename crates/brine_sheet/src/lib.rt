@@ -62,6 +62,7 @@ fn settle(sheet: &[u8], n: usize, intake: &[u64], spare: &mut [i64]) -> Statemen
     requires { (40 * n ≤ length sheet.now) × (length spare.old ≡ n) × (sound (wells n sheet.now) ≡ true) × (intake.now ≡ intakes (rows (wells n sheet.now))) × (sum intake.now ≤ 102400000000) }
     ensures { (result ≡ statement_of (wells n sheet.now ∷ [])) × (spare.new ≡ spares (rows (wells n sheet.now))) }
 {
+    // An index: after a zip with `iter_mut` the goals don't name the list that was written.
     for (i, s) in spare.iter_mut().enumerate() {
         *s = spare_of(plan_record::read(sheet, i), intake[i]);
     }
@@ -115,7 +116,7 @@ fn page(
 pub fn listed(intake: usize, spare: usize, records: usize) -> Result<(), Refusal>
     ensures { number_of result ≡ first_of (list_refusal records intake spare ∷ []) }
 {
-    Refusal::List.when((intake < records) | (spare < records))
+    Refusal::List.when(intake < records || spare < records)
 }
 
 // The first refusal of a batch of one sheet, from its numbers alone.

