@@ -35,7 +35,7 @@ fn first_broken(records: &[u8], injectors: &[u64; 1024]) -> Verdict
         if plan_rules::struck(w) {
             continue;
         }
-        if let Some(rule) = plan_rules::broken(&w, injectors, &seen) {
+        if let Some(rule) = plan_rules::broken(w, injectors, &seen) {
             return Verdict::Fault(rule, i);
         }
         plan_numbers::put(&mut seen, w.number);

@@ -27,5 +27,5 @@ some_left f k t ls h g = ap (some f) (slice-cons k t ls no_link h g)
 pub no_links : (ls : List Link) → AllOfLen (λ l. (l.injector ≡ 0) × (l.share ≡ 0)) ls 4 → ls ≡ replicate 4 no_link
 no_links ls h =
     ext_get_or no_link ls (replicate 4 no_link) h.long (λ i g.
-        let e = h.at i no_link (omega arith) in
-        (λ j. record { injector = e.0 j; share = e.1 j }) ∙ sym (get_or-replicate 4 i no_link no_link (omega arith)))
+    let e = h.at i no_link (omega arith) in
+    (λ j. record { injector = e.0 j; share = e.1 j }) ∙ sym (get_or-replicate 4 i no_link no_link (omega arith)))

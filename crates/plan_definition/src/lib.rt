@@ -24,7 +24,8 @@ pub struct Link {
 }
 
 // A record of a sheet read as a well, with its place there; count is its link count, and of its links the first count are used. Of its note only
-// whether a byte of it is set is read, which tells a struck record.
+// whether a byte of it is set is read, which tells a struck record. Kind and count are bytes, no enum and no slice: a record may hold any, and the
+// rules of Rules.antt judge them.
 #[derive(Clone, Copy, Debug, Default, PartialEq, Eq)]
 pub struct Well {
     pub place: usize,
@@ -57,7 +58,8 @@ impl From<Rule> for u64 {
     }
 }
 
-// What the check of content says: a refusal by its number, that the sheet is sound, or the rule broken with the place beside it.
+// What the check of content says: a refusal by its number, that the sheet is sound, or the rule broken with the place beside it. These are three
+// outcomes, so no Result: a faulted sheet is an answer, and says_sound tells it from the others.
 #[derive(Clone, Copy, Debug, PartialEq, Eq)]
 pub enum Verdict {
     Refused(u64),

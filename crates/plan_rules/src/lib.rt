@@ -13,14 +13,14 @@ ghost use Rattle.plan_rules.specs.Parts.{shape_rules, misshared};
 use plan_definition::{INJECTOR, LINKS_MOST, Link, PRODUCER, RATE_MOST, Rule, SHARES_TOTAL, Well};
 
 // Whether the kind breaks its rule, and whether the link count does.
-fn kind_breaks(w: &Well) -> bool
-    ensures { result ≡ breaks_kind w.now }
+fn kind_breaks(w: Well) -> bool
+    ensures { result ≡ breaks_kind w }
 {
     w.kind != PRODUCER && w.kind != INJECTOR
 }
 
-fn count_breaks(w: &Well) -> bool
-    ensures { result ≡ breaks_link_count w.now }
+fn count_breaks(w: Well) -> bool
+    ensures { result ≡ breaks_link_count w }
 {
     match w.kind {
         PRODUCER => LINKS_MOST < w.count || (w.count == 0) != (w.rate == 0),
@@ -30,8 +30,8 @@ fn count_breaks(w: &Well) -> bool
 }
 
 // The first of the four rules that ask after the well's own numbers.
-fn shaped(w: &Well) -> Option<Rule>
-    ensures { number_of result ≡ first_of (shape_rules w.now) }
+fn shaped(w: Well) -> Option<Rule>
+    ensures { number_of result ≡ first_of (shape_rules w) }
 {
     if w.number == 0 {
         Some(Rule::Number)
@@ -86,25 +86,27 @@ fn shares_break(used: &[Link]) -> bool
 fn some_set(links: &[Link]) -> bool
     ensures { result ≡ list_any (λ (m : Link). not (m.injector == 0 && m.share == 0)) links.now }
 {
-    links.iter().any(|l| *l != Link::default())
+    links.iter().any(|&l| l != Link::default())
 }
 
-// Whether a record is struck (Q-11): all but its place is that of a default. By value, since behind a reference nothing tells an array's length.
+// Whether a record is struck (Q-11): all but its place is that of a default. That a well isn't is told by its number.
 pub fn struck(w: Well) -> bool
     ensures { result ≡ is_struck w }
 {
-    Well { place: 0, ..w } == Well::default()
+    w.number == 0 && Well { place: 0, ..w } == Well::default()
 }
 
 // The first rule that a well breaks, where injectors has the numbers of the sheet's injectors and seen those of the places before.
-pub fn broken(w: &Well, injectors: &[u64; 1024], seen: &[u64; 1024]) -> Option<Rule>
-    ensures { number_of result ≡ first_of (rules_by (has injectors.now) (has seen.now) w.now) }
+pub fn broken(w: Well, injectors: &[u64; 1024], seen: &[u64; 1024]) -> Option<Rule>
+    ensures { number_of result ≡ first_of (rules_by (has injectors.now) (has seen.now) w) }
 {
     let first = shaped(w);
     if first.is_some() {
         return first;
     }
-    let (used, unused) = w.links.split_at(w.count as usize);
+    // The links alone are copied: lent from w, they would have all of w copied.
+    let links = w.links;
+    let (used, unused) = links.split_at(w.count as usize);
     let misnamed = links_break(used, injectors);
     let misshared = shares_break(used);
     if misnamed {

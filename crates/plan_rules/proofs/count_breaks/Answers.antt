@@ -18,23 +18,23 @@ differs false false = refl
 pub returns-then-w-gt-LINKS_MOST : goal.returns-then-w-gt-LINKS_MOST
 unfolding breaks_link_count producer
 returns-then-w-gt-LINKS_MOST c =
-    let w = c.args.w.now in
+    let w = c.args.w in
     rw (eq-eqb w.kind 1 c.in-1.is, lt-ltb 4 w.count (omega arith))
 
 pub returns-else-w-gt-LINKS_MOST : goal.returns-else-w-gt-LINKS_MOST
 unfolding breaks_link_count producer injector
 returns-else-w-gt-LINKS_MOST c =
-    let w = c.args.w.now in
+    let w = c.args.w in
     rw (eq-eqb w.kind 1 c.in-1.is, ne_eqb w.kind 2 (λ e. omega arith), le-ltb 4 w.count (omega arith), or-false) (differs (eqb w.count 0) (eqb w.rate 0))
 
 pub returns-in-2 : goal.returns-in-2
 unfolding breaks_link_count producer injector
 returns-in-2 c =
-    let w = c.args.w.now in
+    let w = c.args.w in
     rw (ne_eqb w.kind 1 (λ e. omega arith), eq-eqb w.kind 2 c.in-2.is)
 
 pub returns-in_default : goal.returns-in_default
 unfolding breaks_link_count producer injector
 returns-in_default c =
-    let w = c.args.w.now in
+    let w = c.args.w in
     rw (ne_eqb w.kind 1 (λ e. omega arith), ne_eqb w.kind 2 (λ e. omega arith))

@@ -22,13 +22,13 @@ number w n = ne_eqb _ _ n
 
 pub returns-then-kind_breaks : goal.returns-then-kind_breaks
 unfolding first_of pick shape_rules rules_by
-returns-then-kind_breaks c = rw (number c.args.w.now c.if-w-eq0.false, sym c.kind_breaks.ensures ∙ c.if-kind_breaks.true)
+returns-then-kind_breaks c = rw (number c.args.w c.if-w-eq0.false, sym c.kind_breaks.ensures ∙ c.if-kind_breaks.true)
 
 pub returns-then-count_breaks : goal.returns-then-count_breaks
 unfolding first_of pick shape_rules rules_by
 returns-then-count_breaks c =
     rw (
-      number c.args.w.now c.if-w-eq0.false,
+      number c.args.w c.if-w-eq0.false,
       sym c.kind_breaks.ensures ∙ c.if-kind_breaks.false,
       sym c.count_breaks.ensures ∙ c.if-count_breaks.true,
     )
@@ -42,13 +42,13 @@ rate w n k k-no l l-no = rw (number w n, sym k ∙ k-no, sym l ∙ l-no)
 pub returns-then-w-gt-RATE_MOST : goal.returns-then-w-gt-RATE_MOST
 unfolding pick
 returns-then-w-gt-RATE_MOST c =
-    let w = c.args.w.now in
+    let w = c.args.w in
     sym (rate w c.if-w-eq0.false c.kind_breaks.ensures c.if-kind_breaks.false c.count_breaks.ensures c.if-count_breaks.false
     ∙ rw (lt-ltb 100000 w.rate (omega arith)))
 
 pub returns-else-w-gt-RATE_MOST : goal.returns-else-w-gt-RATE_MOST
 unfolding pick
 returns-else-w-gt-RATE_MOST c =
-    let w = c.args.w.now in
+    let w = c.args.w in
     sym (rate w c.if-w-eq0.false c.kind_breaks.ensures c.if-kind_breaks.false c.count_breaks.ensures c.if-count_breaks.false
     ∙ rw (le-ltb 100000 w.rate (omega arith)))

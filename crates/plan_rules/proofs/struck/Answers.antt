@@ -8,6 +8,7 @@ use native.Mathlib.Omega.{arith}
 use lib.Dec.{eqb}
 use lib.ListN.{length, replicate}
 use lib.Pointwise.{pointwise}
+use borrow.Author.Tests.{ne_eqb}
 use Rattle.plan_definition.specs.declared.Link.{Link}
 use Rattle.plan_definition.specs.Some.{some}
 use Rattle.plan_definition.specs.Well.{no_link}
@@ -33,9 +34,13 @@ zeros (suc n) [] e = absurd (omega arith)
 zeros (suc n) (l ∷ ls) e =
     ap (λ b. (eqb l.injector 0 && eqb l.share 0) && b) (zeros n ls (omega arith)) ∙ no_other (eqb l.injector 0 && eqb l.share 0) (some not_zero ls)
 
-pub returns : goal.returns
+pub returns-else-w-eq0 : goal.returns-else-w-eq0
 unfolding struck
-returns c =
+returns-else-w-eq0 c = rw (ne_eqb _ 0 c.if-w-eq0.false)
+
+pub returns-then-w-eq0 : goal.returns-then-w-eq0
+unfolding struck
+returns-then-w-eq0 c =
     let w = c.args.w in
     let d = c.default.ensures in
     rw (
