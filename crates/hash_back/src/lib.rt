@@ -1,10 +1,9 @@
 // Stepping back over a block of a kept hash record (document 02, Q-9): its refusals, 3 and 18, and the record before the block was fed.
 #![tactic(auto)]
 
-ghost use Rattle.std.specs.Prelude.{◌≡◌, ◌-◌, ◌/◌, ◌%◌, ◌^◌, ◌≤◌, [], ◌∷◌, length};
+ghost use Rattle.std.specs.Prelude.{◌≡◌, [], ◌∷◌, length};
 ghost use Rattle.definition.specs.Refusal.{first_of};
 ghost use Rattle.definition.specs.State.{blocks_in, state_of};
-ghost use Rattle.hash_definition.specs.Record.{count_of};
 ghost use Rattle.hash_kept.specs.Answer.{lent_of};
 ghost use Rattle.refusals.specs.Number.{number_of};
 ghost use Rattle.back_definition.specs.Round.{round_back};
@@ -17,33 +16,12 @@ use refusals::Refusal;
 // The bytes of a block.
 const BLOCK: usize = 32;
 
-// A count of whole bytes in two words.
-#[derive(Clone, Copy)]
-struct Count {
-    high: u64,
-    low: u64,
-}
-
 // 18: pending bytes, odd bits, a count under 32, or a block that isn't 32 bytes.
 fn refusal(k: Kept, n: usize) -> Result<(), Refusal>
     ensures { number_of result ≡ first_of (back_refusal k n ∷ []) }
 {
-    let pending = k.low % 32 != 0;
-    let odd = k.odd != 0;
-    let under = (k.high == 0) & (k.low < 32);
-    Refusal::Back.when(pending | odd | under | (n != BLOCK))
-}
-
-// A count of at least 32, 32 less: what the low word lacks is borrowed from the high one.
-fn less(high: u64, low: u64) -> Count
-    requires { 32 ≤ count_of high low }
-    ensures { (result.high ≡ (count_of high low - 32) / 2 ^ 64) × (result.low ≡ (count_of high low - 32) % 2 ^ 64) }
-{
-    let borrow = (low < 32) as u64;
-    Count {
-        high: std::num::wrapping_sub_u64(high, borrow),
-        low: std::num::wrapping_sub_u64(low, 32),
-    }
+    let count = hash_kept::count(k.high, k.low);
+    Refusal::Back.when((count % 32 != 0) | (k.odd != 0) | (count < 32) | (n != BLOCK))
 }
 
 // The round undone: the permutation, and then the injection.
@@ -58,14 +36,13 @@ fn backed(k: Kept, block: &[u8]) -> Kept
     requires { first_of (lent_back_refusals k (length block.now)) ≡ 0 }
     ensures { result ≡ backed_of k block.now }
 {
-    let s = k.state;
-    let state = round(codes::width(k.code), s, octets::block(block));
-    let count = less(k.high, k.low);
-    let mut r = k;
-    r.state = state;
-    r.high = count.high;
-    r.low = count.low;
-    r
+    let (high, low) = hash_kept::two_words(hash_kept::count(k.high, k.low) - 32);
+    Kept {
+        state: round(codes::width(k.code), k.state, octets::block(block)),
+        high,
+        low,
+        ..k
+    }
 }
 
 // What a record holds, stepped back over a block.

@@ -6,7 +6,7 @@ use Prim.Native.Nat.{ℕ}
 use Rattle.std.specs.Prelude.{Result, Ok, Err, IsErrAnd}
 use Rattle.definition.specs.Refusal.{first_of, Refusal as Judgement}
 use Rattle.refusals.specs.declared.Refusal.{Refusal}
-use Rattle.refusals.specs.Number.{number, number_of}
+use Rattle.refusals.specs.Number.{number}
 use Rattle.refusals.proofs.Judged.{not_zero, refused}
 use Rattle.hash_definition.specs.declared.Kept.{Kept}
 use Rattle.hash_definition.specs.Lent.{lent_outcome}

@@ -2,7 +2,7 @@
 // states share (document 01, "The kept hash record"; document 02, Q-2 and Q-7).
 #![tactic(auto)]
 
-ghost use Rattle.std.specs.Prelude.{◌≡◌, ◌+◌, ◌*◌, ◌≤◌, [], ◌∷◌, drop, nat_lt};
+ghost use Rattle.std.specs.Prelude.{◌≡◌, ◌+◌, ◌*◌, ◌/◌, ◌%◌, ◌^◌, ◌≤◌, [], ◌∷◌, drop, nat_lt};
 ghost use lib.Dec.{ltb};
 ghost use Rattle.definition.specs.Block.{words_of, words_of_all};
 ghost use Rattle.definition.specs.Width.{block_count};
@@ -20,8 +20,29 @@ use definition::{Block, State, Width};
 use hash_definition::{Held, Kept};
 use refusals::Refusal;
 
-// 2^61, in bytes or in 2^64 bytes: eight times that is Table 1's limit in bits, and odd bits never make up for a whole byte.
-const PAST: u64 = 2305843009213693952;
+// 2^64: what the high word of a count counts.
+const WORD: u128 = 1 << 64;
+
+// The count of whole bytes, which two words hold.
+pub fn count(high: u64, low: u64) -> u128
+    ensures { result ≡ count_of high low }
+{
+    u128::from(high) * WORD + u128::from(low)
+}
+
+// And the two words of a count, the high one first.
+pub fn two_words(count: u128) -> (u64, u64)
+    ensures { result ≡ (count / 2 ^ 64, count % 2 ^ 64) }
+{
+    ((count / WORD) as u64, (count % WORD) as u64)
+}
+
+// Table 1's limit, in bytes.
+fn byte_limit(code: usize) -> u128
+    ensures { 8 * result ≡ limit_at code }
+{
+    if code < 3 { 1 << 61 } else { 1 << 125 }
+}
 
 // What is held beside code and state.
 pub fn held(k: Kept) -> Held
@@ -30,7 +51,7 @@ pub fn held(k: Kept) -> Held
     let pending = k.pending;
     Held {
         odd: k.odd,
-        pending: pending,
+        pending,
         high: k.high,
         low: k.low,
     }
@@ -41,12 +62,13 @@ pub fn with_held(k: Kept, h: Held) -> Kept
     ensures { result ≡ with_held k h }
 {
     let pending = h.pending;
-    let mut r = k;
-    r.odd = h.odd;
-    r.pending = pending;
-    r.high = h.high;
-    r.low = h.low;
-    r
+    Kept {
+        odd: h.odd,
+        pending,
+        high: h.high,
+        low: h.low,
+        ..k
+    }
 }
 
 // Whether all words of a block are zero.
@@ -60,11 +82,9 @@ pub fn zero_block(b: Block) -> bool
 fn unused_zero(w: Width, s: State) -> bool
     ensures { result ≡ all_zero (words_of_all (drop (block_count w) (five s))) }
 {
-    let h3 = s.h3;
-    let h4 = s.h4;
     match w {
-        Width::W3 => zero_block(h3) & zero_block(h4),
-        Width::W4 => zero_block(h4),
+        Width::W3 => zero_block(s.h3) & zero_block(s.h4),
+        Width::W4 => zero_block(s.h4),
         Width::W5 => true,
     }
 }
@@ -84,18 +104,15 @@ fn low_zero(x: u8, odd: usize) -> bool
     requires { odd ≤ 7 }
     ensures { result ≡ all_zero (drop odd (bits_of_byte x)) }
 {
-    ((x as u32) << odd) % 256 == 0
+    (u32::from(x) << odd) % 256 == 0
 }
 
-// Whether a count of whole bytes, in two words, and at most seven odd bits are under Table 1's limit.
-fn within(code: usize, high: u64, low: u64, odd: usize) -> bool
+// Whether a count of whole bytes and at most seven odd bits are under Table 1's limit.
+fn within(code: usize, count: u128, odd: usize) -> bool
     requires { odd ≤ 7 }
-    ensures { result ≡ nat_lt (8 * count_of high low + odd) (limit_at code) }
+    ensures { result ≡ nat_lt (8 * count + odd) (limit_at code) }
 {
-    if code < 3 {
-        return (high == 0) & (low < PAST);
-    }
-    high < PAST
+    count < byte_limit(code)
 }
 
 // Whether what is held beside the state is well formed at a code.
@@ -103,24 +120,22 @@ pub fn well_held(code: usize, h: Held) -> bool
     ensures { result ≡ well_held code h }
 {
     let odd = h.odd;
-    let p = h.pending;
     if 7 < odd {
         return false;
     }
     let pos = (h.low % 32) as usize;
     let known = codes::known(code);
-    let low = low_zero(p[pos], odd);
-    let after = zero_from(p, pos + 1);
-    let count = within(code, h.high, h.low, odd);
-    known & low & after & count
+    let low = low_zero(h.pending[pos], odd);
+    let after = zero_from(h.pending, pos + 1);
+    let under = within(code, count(h.high, h.low), odd);
+    known & low & after & under
 }
 
 // Whether what a record holds is well formed.
 fn well_kept(k: Kept) -> bool
     ensures { result ≡ well_kept k }
 {
-    let s = k.state;
-    let unused = unused_zero(codes::width(k.code), s);
+    let unused = unused_zero(codes::width(k.code), k.state);
     let rest = well_held(k.code, held(k));
     rest & unused
 }
@@ -152,17 +167,12 @@ pub fn whole(odd: usize, n: usize) -> usize
     n - 1
 }
 
-// 4: the whole bytes so far and n more, with at most seven odd bits, reach Table 1's limit. The sum is carried by two words.
-fn long(code: usize, high: u64, low: u64, n: usize, odd: usize) -> bool
+// 4: the whole bytes so far and n more, with at most seven odd bits, reach Table 1's limit.
+fn long(code: usize, count: u128, n: usize, odd: usize) -> bool
     requires { odd ≤ 7 }
-    ensures { result ≡ lib.Dec.leb (limit_at code) (8 * (count_of high low + n) + odd) }
+    ensures { result ≡ lib.Dec.leb (limit_at code) (8 * (count + n) + odd) }
 {
-    let sum = std::num::wrapping_add_u64(low, n as u64);
-    let carry = (sum < low) as u64;
-    if code < 3 {
-        return (high != 0) | (carry != 0) | (PAST <= sum);
-    }
-    PAST - carry <= high
+    byte_limit(code) <= count.saturating_add(n as u128)
 }
 
 // 17, then 4, of n bytes with odd bits, fed to what holds odd bits and a count.
@@ -170,5 +180,5 @@ pub fn piece(code: usize, h: Held, odd: usize, n: usize) -> Result<(), Refusal>
     ensures { number_of result ≡ first_of (odd_refusal h.odd odd n ∷ long_refusal code (count_of h.high h.low) odd n ∷ []) }
 {
     Refusal::Odd.when((h.odd != 0) | (7 < odd) | ((odd != 0) & (n == 0)))?;
-    Refusal::Long.when(long(code, h.high, h.low, whole(odd, n), odd))
+    Refusal::Long.when(long(code, count(h.high, h.low), whole(odd, n), odd))
 }

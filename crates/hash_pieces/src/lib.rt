@@ -17,23 +17,11 @@ use definition::{Counted, State, Width};
 use hash_definition::{Held, Kept};
 use refusals::Refusal;
 
-// A count of whole bytes in two words.
-#[derive(Clone, Copy)]
-struct Count {
-    high: u64,
-    low: u64,
-}
-
-// n bytes more: what the low word can't hold is carried into the high one.
-fn counted(high: u64, low: u64, n: usize) -> Count
-    ensures { result ≡ record { high = high_of high low n; low = low_of high low n } }
+// The two words of a count with n bytes more.
+fn counted(high: u64, low: u64, n: usize) -> (u64, u64)
+    ensures { result ≡ (high_of high low n, low_of high low n) }
 {
-    let sum = std::num::wrapping_add_u64(low, n as u64);
-    let carry = (sum < low) as u64;
-    Count {
-        high: std::num::wrapping_add_u64(high, carry),
-        low: sum,
-    }
+    hash_kept::two_words(hash_kept::count(high, low).wrapping_add(n as u128))
 }
 
 // Whole bytes that complete no block.
@@ -41,12 +29,12 @@ fn stays(h: Held, piece: &[u8]) -> Held
     ensures { result ≡ stays_of h piece.now }
 {
     let pos = (h.low % 32) as usize;
-    let c = counted(h.high, h.low, piece.len());
+    let (high, low) = counted(h.high, h.low, piece.len());
     Held {
         odd: h.odd,
         pending: octets::pasted(h.pending, pos, piece),
-        high: c.high,
-        low: c.low,
+        high,
+        low,
     }
 }
 
@@ -104,14 +92,14 @@ fn fed(k: Kept, piece: &[u8]) -> Kept
     };
     let d = rounds::absorb(w, c, rest);
     let at = rest.len() / 32 * 32;
-    let count = counted(k.high, k.low, piece.len());
+    let (high, low) = counted(k.high, k.low, piece.len());
     Kept {
         code: k.code,
         odd: k.odd,
         state: d.state,
         pending: octets::pasted([0u8; 32], 0, &rest[at..]),
-        high: count.high,
-        low: count.low,
+        high,
+        low,
     }
 }
 

@@ -2,9 +2,8 @@
 -- Assumes nothing.
 use Rattle.hash_definition.specs.Record.{pending_count, bytes_fed}
 use Rattle.back_definition.specs.Back.{back_refusal}
-use Rattle.hash_back.proofs.Counts.{pending_low, under_32}
 use Rattle.hash_back.proofs.refusal.Goals as goal
 
 pub returns : goal.returns
 unfolding back_refusal pending_count bytes_fed
-returns c = rw (pending_low _ _, ← under_32 _ _) c.when.ensures
+returns c = rw c.count-count.ensures at c.when.ensures

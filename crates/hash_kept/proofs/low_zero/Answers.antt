@@ -8,4 +8,4 @@ use Rattle.hash_kept.proofs.low_zero.Goals as goal
 pub returns : goal.returns
 returns c =
     let a = c.args in
-    rw (mod-mod-pow (a.x * 2 ^ a.odd) 24 8) (odd-zero a.odd a.x c.requires (omega arith))
+    rw (c.from.ensures, mod-mod-pow (a.x * 2 ^ a.odd) 24 8) (odd-zero a.odd a.x c.requires (omega arith))

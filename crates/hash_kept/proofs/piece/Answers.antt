@@ -18,4 +18,4 @@ long-requires c = ltb-false 7 _ (either_false _ _ (either_false _ _ (fails (_ �
 
 pub returns : goal.returns
 unfolding odd_refusal long_refusal
-returns c = rw (c.long.ensures, c.whole.ensures) at c.when-2.ensures ∙ sym (passed (_ ∷ []) (_ ∷ []) (omega arith) c.in_ok-when.ensures)
+returns c = rw (c.long.ensures, c.count.ensures, c.whole.ensures) at c.when-2.ensures ∙ sym (passed (_ ∷ []) (_ ∷ []) (omega arith) c.in_ok-when.ensures)

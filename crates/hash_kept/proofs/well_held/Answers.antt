@@ -12,7 +12,7 @@ use Rattle.hash_definition.proofs.Zeros.{zero_from_bit}
 use Rattle.hash_kept.proofs.well_held.Goals as goal
 
 -- an array has its length
-pending : (s : goal.After-within-count) → length s.args.h.pending ≡ 32
+pending : (s : goal.After-within-under) → length s.args.h.pending ≡ 32
 pending s = search rules
 
 pub returns-then-odd-gt7 : goal.returns-then-odd-gt7
@@ -30,5 +30,5 @@ in_order code h n o =
 
 pub returns : goal.returns
 returns c =
-    rw (c.known-known.ensures, c.low_zero-low.ensures, c.zero_from-after.ensures, c.within-count.ensures)
+    rw (c.known-known.ensures, c.low_zero-low.ensures, c.zero_from-after.ensures, c.within-under.ensures, c.count.ensures)
     (in_order c.args.code c.args.h (pending c) c.if-odd-gt7.false)

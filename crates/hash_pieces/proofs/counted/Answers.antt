@@ -1,15 +1,14 @@
--- `hash_pieces::counted` meets its contract: what the low words' sum lacks is carried into the high word.
+-- `hash_pieces::counted` meets its contract: what a sum loses above its two words, neither of them holds.
 -- Assumes nothing.
-use Rattle.std.proofs.Common.{ℕ, ltb, ◌∙◌, arith}
-use mir.Val.{bool_byte}
-use Rattle.hash_kept.proofs.Limit.{carried}
-use Rattle.hash_pieces.proofs.Counts.{both_words}
+use Rattle.std.proofs.Common.{◌+◌, ◌∙◌}
+use lib.Pow.{field, mod-mod-pow}
+use Rattle.hash_definition.specs.Record.{count_of}
+use Rattle.hash_pieces.specs.Short.{high_of, low_of}
 use Rattle.hash_pieces.proofs.counted.Goals as goal
 
 pub returns : goal.returns
+unfolding high_of low_of
 returns c =
     let a = c.args in
-    let sum = c.wrapping_add_u64-sum.result in
-    let carry : ℕ = bool_byte (ltb sum a.low) in
-    let w = both_words a.high a.low a.n carry sum (omega arith) (carried a.low a.n sum (omega arith) (omega arith) c.wrapping_add_u64-sum.ensures.value) in
-    λ i. record { high = (c.wrapping_add_u64.ensures.value ∙ w.0) i; low = w.1 i }
+    let sum = count_of a.high a.low + a.n in
+    c.two_words.ensures ∙ rw (c.count.ensures, field sum 64 64, mod-mod-pow sum 64 64)

@@ -28,7 +28,7 @@ returns c =
     let z : c.pasted.result ≡ write_at 0 _ (replicate 32 0) = c.pasted.ensures in
     rw (
       z,
-      c.counted-count.ensures,
+      c.counted-high.ensures,
       c.absorb-d.ensures,
       c.width-w.ensures,
       c.split_at.ensures.back,

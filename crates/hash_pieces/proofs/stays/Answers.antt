@@ -5,4 +5,4 @@ use Rattle.hash_pieces.proofs.stays.Goals as goal
 
 pub returns : goal.returns
 unfolding stays_of
-returns c = rw (c.pasted.ensures, c.counted-c.ensures)
+returns c = rw (c.pasted.ensures, c.counted-high.ensures)
