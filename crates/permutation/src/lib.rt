@@ -173,7 +173,7 @@ fn put_lane(v: &mut [u32; 40], j: usize, g: Going<Pair>)
     v[36 + j] = t.right;
 }
 
-// One step on all four.
+// One step on all four. An index: j is a place in each row of the lanes, and what an iterator over copies gives would have to be put back by it.
 fn step_lanes(v: &mut [u32; 40])
     requires { v.old ≡ lanes_of (lane_of 0 v.old) (lane_of 1 v.old) (lane_of 2 v.old) (lane_of 3 v.old) }
     ensures { v.new ≡ stepped v.old }

@@ -8,7 +8,7 @@ ghost use Rattle.definition.specs.Permutation.{step as step_of};
 
 use definition::{Block, Crumb, Pair};
 
-// SubCrumb by the instructions of Appendix D, left to right and line by line; a register that is written anew has a new name.
+// SubCrumb by the instructions of Appendix D, left to right and line by line.
 pub fn sub_crumb(a0: u32, a1: u32, a2: u32, a3: u32) -> Crumb
     ensures { result ≡ sub_crumb a0 a1 a2 a3 }
 {
@@ -17,21 +17,21 @@ pub fn sub_crumb(a0: u32, a1: u32, a2: u32, a3: u32) -> Crumb
     let mut r2 = a2;
     let mut r3 = a3;
     let mut r4 = r0;
-    r0 = r0 | r1;
-    r2 = r2 ^ r3;
+    r0 |= r1;
+    r2 ^= r3;
     r1 = !r1;
-    r0 = r0 ^ r3;
-    r3 = r3 & r4;
-    r1 = r1 ^ r3;
-    r3 = r3 ^ r2;
-    r2 = r2 & r0;
+    r0 ^= r3;
+    r3 &= r4;
+    r1 ^= r3;
+    r3 ^= r2;
+    r2 &= r0;
     r0 = !r0;
-    r2 = r2 ^ r1;
-    r1 = r1 | r3;
-    r4 = r4 ^ r1;
-    r3 = r3 ^ r2;
-    r2 = r2 & r1;
-    r1 = r1 ^ r0;
+    r2 ^= r1;
+    r1 |= r3;
+    r4 ^= r1;
+    r3 ^= r2;
+    r2 &= r1;
+    r1 ^= r0;
     Crumb {
         x0: r4,
         x1: r1,
