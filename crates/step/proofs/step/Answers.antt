@@ -6,10 +6,6 @@ use Rattle.step.proofs.step.Goals as goal
 pub returns : goal.returns
 unfolding step_of add_constant mix_words sub_crumbs on_halves on_pairs
 returns c =
-    let d4 = c.before.before.before.before in
-    let d3 = d4.before in
-    let d2 = d3.before in
-    let d1 = d2.before in
     simp (
       c.mix_word-m3.ensures,
       c.mix_word-m2.ensures,

@@ -1,4 +1,4 @@
--- `step_back_lem::step` meets its contract: it is the step undone, put together from MixWord and SubCrumb undone.
+-- `step_back::step` meets its contract: it is the step undone, put together from MixWord and SubCrumb undone.
 -- Assumes nothing.
 use Rattle.definition.specs.Permutation.{on_halves, on_pairs, add_constant}
 use Rattle.back_definition.specs.Step.{sub_crumbs_back, mix_words_back, step_back}
@@ -7,7 +7,6 @@ use Rattle.step_back.proofs.step.Goals as goal
 pub returns : goal.returns
 unfolding step_back sub_crumbs_back mix_words_back on_halves on_pairs add_constant
 returns c =
-    let m4 = c.before.before in
     simp (
       c.sub_crumb-y.ensures,
       c.sub_crumb-x.ensures,

@@ -1,4 +1,4 @@
--- `step_back_lem::sub_crumb` meets its contract: it runs a program of Appendix D's instructions, which undoes SubCrumb on words of 32 bits.
+-- `step_back::sub_crumb` meets its contract: it runs a program of Appendix D's instructions, which undoes SubCrumb on words of 32 bits.
 -- Assumes nothing.
 use Rattle.definition.specs.AppendixD.{execute, execute_all}
 use Rattle.step_back.proofs.Program.{program, results, program-back}
