@@ -116,7 +116,7 @@ fn page(
 pub fn listed(intake: usize, spare: usize, records: usize) -> Result<(), Refusal>
     ensures { number_of result ≡ first_of (list_refusal records intake spare ∷ []) }
 {
-    Refusal::List.when(intake < records || spare < records)
+    Refusal::Lists.when(intake < records || spare < records)
 }
 
 // The first refusal of a batch of one sheet, from its numbers alone.

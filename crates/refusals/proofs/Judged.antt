@@ -8,7 +8,7 @@ use Rattle.std.specs.Prelude.{Result, Ok, Err, IsErrAnd}
 use Rattle.definition.specs.Refusal.{first_of, Refusal as Judgement}
 use Rattle.definition.proofs.Refusals.{Numbered, front-given, rest-given}
 use Rattle.refusals.specs.declared.Refusal.{Refusal}
-use Rattle.refusals.specs.declared.Refusal.TheVariants.{Width, Out, Record, Long, Sheet, Marks, Place, Full, Size, Claim, Stale, Words, Batch, Set, Own, StaleTail, Odd, Back, Hops, Unsound, Well, Reach, Places, Columns, List as Listed}
+use Rattle.refusals.specs.declared.Refusal.TheVariants.{Width, Out, Record, Long, Sheet, Marks, Place, Full, Size, Claim, Stale, Words, Batch, Set, Own, StaleTail, Odd, Back, Hops, Unsound, Well, Reach, Places, Columns, Lists}
 use Rattle.refusals.specs.Number.{number, number_of}
 
 -- 0 is no refusal's number
@@ -37,7 +37,7 @@ above_zero Well = omega arith
 above_zero Reach = omega arith
 above_zero Places = omega arith
 above_zero Columns = omega arith
-above_zero Listed = omega arith
+above_zero Lists = omega arith
 
 pub not_zero : (r : Refusal) → number r ≡ 0 → ⊥
 not_zero r e = let above = above_zero r in absurd (omega arith)

@@ -2,7 +2,7 @@
 use Rattle.std.specs.Prelude.{ℕ, Result, Ok, Err}
 use Rattle.definition.specs.Refusal.{DONE, WIDTH, OUT, RECORD, LONG, SHEET, MARKS, PLACE, FULL, SIZE, CLAIM, STALE, WORDS, BATCH, SET, OWN, STALE_TAIL, ODD, BACK, HOPS, UNSOUND, WELL, REACH, PLACES, COLUMNS, LIST}
 use Rattle.refusals.specs.declared.Refusal.{Refusal}
-use Rattle.refusals.specs.declared.Refusal.TheVariants.{Width, Out, Record, Long, Sheet, Marks, Place, Full, Size, Claim, Stale, Words, Batch, Set, Own, StaleTail, Odd, Back, Hops, Unsound, Well, Reach, Places, Columns, List}
+use Rattle.refusals.specs.declared.Refusal.TheVariants.{Width, Out, Record, Long, Sheet, Marks, Place, Full, Size, Claim, Stale, Words, Batch, Set, Own, StaleTail, Odd, Back, Hops, Unsound, Well, Reach, Places, Columns, Lists}
 
 abbrev pub number : Refusal → ℕ
 number Width = WIDTH
@@ -29,7 +29,7 @@ number Well = WELL
 number Reach = REACH
 number Places = PLACES
 number Columns = COLUMNS
-number List = LIST
+number Lists = LIST
 
 abbrev pub number_of : {A : Type 0} → Result A Refusal → ℕ
 number_of (Ok a) = DONE

@@ -32,7 +32,7 @@ pub enum Refusal {
     Reach = 22,
     Places = 23,
     Columns = 24,
-    List = 25,
+    Lists = 25,
 }
 
 impl From<Refusal> for u32 {

@@ -4,7 +4,7 @@ use mathlib.Core.Path.{◌≡◌, refl}
 use Prim.Native.Nat.{◌+◌}
 use denote.Enum.Declared.{tag_of}
 use Rattle.refusals.specs.declared.Refusal.{Refusal}
-use Rattle.refusals.specs.declared.Refusal.TheVariants.{Width, Out, Record, Long, Sheet, Marks, Place, Full, Size, Claim, Stale, Words, Batch, Set, Own, StaleTail, Odd, Back, Hops, Unsound, Well, Reach, Places, Columns, List}
+use Rattle.refusals.specs.declared.Refusal.TheVariants.{Width, Out, Record, Long, Sheet, Marks, Place, Full, Size, Claim, Stale, Words, Batch, Set, Own, StaleTail, Odd, Back, Hops, Unsound, Well, Reach, Places, Columns, Lists}
 use Rattle.refusals.specs.contracts.Refusal.{the_type}
 use Rattle.refusals.specs.Number.{number}
 use Rattle.refusals.proofs.U32FromRefusal.from.Goals as goal
@@ -34,7 +34,7 @@ numbered Well = refl
 numbered Reach = refl
 numbered Places = refl
 numbered Columns = refl
-numbered List = refl
+numbered Lists = refl
 
 pub returns : goal.returns
 returns c = numbered c.args.r
