@@ -11,40 +11,29 @@ use definition::Width;
 pub fn known(code: usize) -> bool
     ensures { result ≡ known_of code }
 {
-    if code < 1 {
-        return false;
-    }
-    code <= 4
+    matches!(code, 1..=4)
 }
 
 // w at a code.
 pub fn width(code: usize) -> Width
     ensures { result ≡ width_at code }
 {
-    if code == 3 {
-        return Width::W4;
+    match code {
+        3 => Width::W4,
+        4 => Width::W5,
+        _ => Width::W3,
     }
-    if code == 4 {
-        return Width::W5;
-    }
-    Width::W3
 }
 
 // The words of the digest at a code.
 pub fn words(code: usize) -> usize
     ensures { result ≡ words_at code }
 {
-    if code == 1 {
-        return 7;
+    match code {
+        1 => 7,
+        2 => 8,
+        3 => 12,
+        4 => 16,
+        _ => 0,
     }
-    if code == 2 {
-        return 8;
-    }
-    if code == 3 {
-        return 12;
-    }
-    if code == 4 {
-        return 16;
-    }
-    0
 }

@@ -1,13 +1,18 @@
--- `codes::known` meets its contract: the two tests are the definition's.
+-- `codes::known` meets its contract: the range is the definition's.
 -- Assumes nothing.
+use native.Mathlib.Omega.{arith}
 use borrow.Author.Tests.{lt-leb, le-leb}
 use Rattle.definition.specs.Refusal.{known as known_of}
 use Rattle.codes.proofs.known.Goals as goal
 
-pub returns-then-code-lt1 : goal.returns-then-code-lt1
+pub returns-in-1-to-4 : goal.returns-in-1-to-4
 unfolding known_of
-returns-then-code-lt1 c = rw (lt-leb _ _ c.if-code-lt1.true)
+returns-in-1-to-4 c = rw (le-leb 1 c.args.code (omega arith), le-leb c.args.code 4 (omega arith))
 
-pub returns : goal.returns
+pub returns-in_default : goal.returns-in_default
 unfolding known_of
-returns c = rw (le-leb _ _ c.if-code-lt1.false)
+returns-in_default c = rw (lt-leb 1 c.args.code (omega arith))
+
+pub returns-in_default-2 : goal.returns-in_default-2
+unfolding known_of
+returns-in_default-2 c = rw (le-leb 1 c.args.code (omega arith), lt-leb c.args.code 4 (omega arith))
