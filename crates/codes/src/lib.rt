@@ -1,4 +1,5 @@
-// The four codes: 1 = 224 bits, 2 = 256, 3 = 384, 4 = 512 (source, Tables 2 and 3; document 01).
+// The four codes: 1 = 224 bits, 2 = 256, 3 = 384, 4 = 512 (source, Tables 2 and 3; document 01). No enum of them: C hands over any number, a record
+// holds any byte, and each call's order of refusals says how late one that is no code is judged.
 #![tactic(auto)]
 
 ghost use Rattle.std.specs.Prelude.{◌≡◌};

@@ -26,7 +26,7 @@ pub fn turn_whole(t: u64) -> u64
     f.rotate_left(32)
 }
 
-// t_r of t_l || t_r.
+// t_r of t_l || t_r. An `as` here and in permutation's halves: t_l is cut off, which no From does.
 pub fn right(t: u64) -> u32
     ensures { result ≡ t % 2 ^ 32 }
 {

@@ -44,7 +44,7 @@ fn byte_limit(code: usize) -> u128
     if code < 3 { 1 << 61 } else { 1 << 125 }
 }
 
-// What is held beside code and state.
+// What is held beside code and state. No From: its partner below puts two values together, and the pair reads alike.
 pub fn held(k: Kept) -> Held
     ensures { result ≡ held_of k }
 {

@@ -178,6 +178,7 @@ pub fn put_held(h: Held, b: &mut [u8])
 {
     octets::put_bytes(b, ODD_AT, &[(h.odd % 256) as u8]);
     octets::put_bytes(b, PENDING_AT, &h.pending);
+    // The count by halves and in one call: two calls of eight bytes would write the first where there is no room for both.
     octets::put_words(
         b,
         COUNT_AT,

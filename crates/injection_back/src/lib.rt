@@ -54,6 +54,7 @@ fn unring<const N: usize>(inverse: u32, y: [Block; N]) -> [Block; N]
 {
     let mut e = y;
     let mut last = times(inverse, ring_sum(&y));
+    // By place: a zip of both lists from their ends would say no more.
     for j in (0..N).rev() {
         e[j] = last;
         last = y[j] ^ double(last);
