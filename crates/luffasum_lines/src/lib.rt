@@ -43,7 +43,8 @@ fn digit(n: u8) -> u8
     b'a' + (n - 10)
 }
 
-// The decimal digits of a number at the end of 20 bytes, and the place where they begin.
+// The decimal digits of a number at the end of 20 bytes, and the place where they begin. By hand: a crate that prints numbers would be the only
+// one here that isn't the library's own. `as`: a u8 has no From of a u64; both digits are below 10.
 fn decimal(n: u64, t: &mut [u8]) -> usize
     requires { length t.old ≡ 20 }
     ensures { (result ≤ 20) × (drop result t.new ≡ decimal_of n) }
@@ -65,9 +66,7 @@ fn put_hexadecimal(out: &mut [u8], i: usize, digest: &[u8])
     requires { i + 2 * length digest.now ≤ length out.old }
     ensures { out.new ≡ write_at i (hexadecimal digest.now) out.old }
 {
-    let n = digest.len();
-    for k in 0..n {
-        let b = digest[k];
+    for (k, b) in digest.iter().enumerate() {
         octets::put_bytes(out, i + 2 * k, &[digit(b / 16), digit(b % 16)]);
     }
 }
@@ -100,11 +99,11 @@ fn put_record(out: &mut [u8], i: usize, code: u8, c: usize, k: Kept) -> usize
     }
     let mut digest = [0u8; 64];
     let _ = hash_working::finish(k, &mut digest);
-    let n = 4 * codes::words(code as usize);
+    let n = 4 * codes::words(usize::from(code));
     put_line(out, i, code, k.low, &digest[..n])
 }
 
-// The four lines in front of a buffer, and their bytes.
+// The four lines in front of a buffer, and their bytes. Four calls: two codes share a record, so a table for a loop would be longer than they are.
 fn put_lines(r: &Records, out: &mut [u8]) -> usize
     requires { room ≤ length out.old }
     ensures { (result ≡ length (four_records (reading_of r.now))) × (out.new ≡ write_at 0 (four_records (reading_of r.now)) out.old) }

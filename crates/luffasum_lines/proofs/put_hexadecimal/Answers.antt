@@ -25,9 +25,6 @@ pub loop-k-init : goal.loop-k-init
 unfolding some hexadecimal
 loop-k-init c = (omega arith, (omega arith, omega arith), sym (write_none _ _))
 
-pub digit-requires : goal.digit-requires
-digit-requires c = omega (arith, c.shared_slice_known-in-loop-k-1.given c.loop-k.k)
-
 pub loop-k-preserved : goal.loop-k-preserved
 loop-k-preserved c =
     let l = c.loop-k in (

@@ -47,27 +47,27 @@ unfolding bytes_at
 small code = omega (arith, words_le code)
 
 pub overflow_mul-n : goal.overflow_mul-n
-overflow_mul-n c = omega (arith, c.words-n.ensures, words_le c.args.code)
+overflow_mul-n c = omega (arith, c.words-n.ensures, words_le c.from.result)
 
 -- so many bytes as the code's digest has
-asked : {n : ℕ} (code : ℕ) → n ≡ words_at code → 4 * n ≡ bytes_at code
+asked : {n m : ℕ} (code : ℕ) → n ≡ words_at m → m ≡ code → 4 * n ≡ bytes_at code
 unfolding bytes_at
-asked code e = ap (λ (n : ℕ). 4 * n) e
+asked code e f = ap (λ (n : ℕ). 4 * n) (e ∙ ap words_at f)
 
 -- are in the buffer
-within : {n : ℕ} (code : ℕ) (digest : List ℕ) → n ≡ words_at code → length digest ≡ 64 → 4 * n ≤ length digest
-within code digest e l = omega (arith, asked code e, small code, l)
+within : {n m : ℕ} (code : ℕ) (digest : List ℕ) → n ≡ words_at m → m ≡ code → length digest ≡ 64 → 4 * n ≤ length digest
+within code digest e f l = omega (arith, asked code e f, small code, l)
 
 -- and are the front of the digest
 shown : (c : goal.After-slice_known-2-1) → take (4 * c.words-n.result) c.finish.new.out ≡ take (bytes_at c.args.code) (finished c.args.k)
 shown c =
     let k = c.args.k in
     let d = ap (λ (o : Outcome). o.buffer) (c.finish.ensures ∙ lent_finish_done k _ (formed _ (kept _ _ _ c.is_err.ensures.value c.form.ensures c.if-is_err-k.false).0) (small k.code)) in
-    ap₂ (λ (n : ℕ) (l : List ℕ). take n l) (asked c.args.code c.words-n.ensures) d ∙ front c.args.code c.args.c k (kept _ _ _ c.is_err.ensures.value c.form.ensures c.if-is_err-k.false).1 c.requires.1 _
+    ap₂ (λ (n : ℕ) (l : List ℕ). take n l) (asked c.args.code c.words-n.ensures c.from.ensures) d ∙ front c.args.code c.args.c k (kept _ _ _ c.is_err.ensures.value c.form.ensures c.if-is_err-k.false).1 c.requires.1 _
 
 pub put_line-requires : goal.put_line-requires
 put_line-requires c =
-    (c.requires.0, omega (arith, length-take-le (4 * c.words-n.result) c.finish.new.out (within c.args.code c.finish.new.out c.words-n.ensures c.finish.auto.out), asked c.args.code c.words-n.ensures, c.requires.2))
+    (c.requires.0, omega (arith, length-take-le (4 * c.words-n.result) c.finish.new.out (within c.args.code c.finish.new.out c.words-n.ensures c.from.ensures c.finish.auto.out), asked c.args.code c.words-n.ensures c.from.ensures, c.requires.2))
 
 pub returns : goal.returns
 returns c =
@@ -77,8 +77,8 @@ returns c =
 
 pub slice_bounds-digest-end : goal.slice_bounds-digest-end
 slice_bounds-digest-end c =
-    within c.args.code c.finish.new.out c.words-n.ensures c.finish.auto.out
+    within c.args.code c.finish.new.out c.words-n.ensures c.from.ensures c.finish.auto.out
 
 pub slice_bounds-put_line-end : goal.slice_bounds-put_line-end
 slice_bounds-put_line-end c =
-    sym (length-take-le _ _ (within c.args.code c.finish.new.out c.words-n.ensures c.finish.auto.out))
+    sym (length-take-le _ _ (within c.args.code c.finish.new.out c.words-n.ensures c.from.ensures c.finish.auto.out))
