@@ -30,7 +30,7 @@ pub fn count(high: u64, low: u64) -> u128
     u128::from(high) * WORD + u128::from(low)
 }
 
-// And the two words of a count, the high one first.
+// And the two words of a count, the high one first. `as`, here and below: a half that is cut off has no From, nor has a usize of or to more bits.
 pub fn two_words(count: u128) -> (u64, u64)
     ensures { result ≡ (count / 2 ^ 64, count % 2 ^ 64) }
 {
@@ -99,7 +99,8 @@ fn zero_from(p: [u8; 32], at: usize) -> bool
     zero_block(octets::full_block(&q[at..]))
 }
 
-// Whether the bits of a byte after its first ones are zero.
+// Whether the bits of a byte after its first ones are zero. odd ≤ 7 is asked here and twice below: the callers have judged it, well_held at once
+// and piece by 17, which comes before 4.
 fn low_zero(x: u8, odd: usize) -> bool
     requires { odd ≤ 7 }
     ensures { result ≡ all_zero (drop odd (bits_of_byte x)) }
