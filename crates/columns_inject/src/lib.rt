@@ -55,7 +55,8 @@ impl Coefficient {
     fn times(self, x: u8) -> u8
         ensures { result ≡ product (number self) x }
     {
-        products::tables()[self as usize][x as usize]
+        // A cast: a variant's number is the place of its table.
+        products::tables()[self as usize][usize::from(x)]
     }
 }
 

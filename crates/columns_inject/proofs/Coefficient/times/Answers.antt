@@ -30,4 +30,4 @@ table C10 = refl
 pub returns : goal.returns
 returns c =
     let a = c.args in
-    rw c.tables.ensures (ap (λ (t : List ℕ). get_or t a.x 0) (table a.self) ∙ entry (number a.self) a.x (search rules))
+    rw (c.tables.ensures, c.from.ensures) (ap (λ (t : List ℕ). get_or t a.x 0) (table a.self) ∙ entry (number a.self) a.x (search rules))
