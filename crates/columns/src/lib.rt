@@ -1,10 +1,9 @@
 // States and message blocks by columns, for the commissioning crew (document 02, Q-12): from words, to words, and from a message block.
 #![tactic(auto)]
 
-ghost use Rattle.std.specs.Prelude.{◌≡◌, ◌+◌, ◌*◌, ◌^◌, ◌<◌, ◌≤◌, length, drop};
+ghost use Rattle.std.specs.Prelude.{◌≡◌, ◌+◌, ◌*◌, ◌^◌, ◌<◌, length};
 ghost use Rattle.definition.specs.Word.{bit};
 ghost use Rattle.definition.specs.Block.{words_of, words_of_all, block_from};
-ghost use Rattle.definition.specs.Buffer.{overwrite_at};
 ghost use Rattle.definition.specs.Field.{element as element_of};
 ghost use Rattle.columns_definition.specs.Dump.{column, dump as dump_of, block_at, undump, blocks_of};
 ghost use Rattle.refusals.specs.Number.{number_of};
@@ -24,28 +23,29 @@ fn element(b: &[u32], l: usize) -> u8
     let x3 = x4 * 2 + (b[3] >> l) % 2;
     let x2 = x3 * 2 + (b[2] >> l) % 2;
     let x1 = x2 * 2 + (b[1] >> l) % 2;
+    // A cast: eight bits fit in a byte.
     (x1 * 2 + (b[0] >> l) % 2) as u8
 }
 
-// The bytes of n blocks of words at position l.
-fn put_position(words: &[u32], n: usize, l: usize, dump: &mut [u8])
-    requires { (n ≤ 5) × (l < 32) × (length words.now ≡ 8 * n) × (length dump.old ≡ 32 * n) }
-    ensures { dump.new ≡ overwrite_at (n * l) (column l (blocks_of n words.now)) dump.old }
+// The bytes of blocks of words at position l, one for each block.
+fn put_position(words: &[u32], l: usize, bytes: &mut [u8])
+    requires { (l < 32) × (length words.now ≡ 8 * length bytes.old) }
+    ensures { bytes.new ≡ column l (blocks_of (length bytes.old) words.now) }
 {
     // Written by place: what is written through a zip with iter_mut isn't known to a proof.
     for (j, block) in words.chunks_exact(8).enumerate() {
-        dump[n * l + j] = element(block, l);
+        bytes[j] = element(block, l);
     }
 }
 
 // The dump of n blocks of words.
 fn put_dump(words: &[u32], n: usize, dump: &mut [u8])
-    requires { (n ≤ 5) × (length words.now ≡ 8 * n) × (length dump.old ≡ 32 * n) }
+    requires { (length words.now ≡ 8 * n) × (length dump.old ≡ 32 * n) }
     ensures { dump.new ≡ dump_of (blocks_of n words.now) }
 {
     // A range: what is written through chunks_exact_mut isn't known to a proof.
     for l in 0..32usize {
-        put_position(words, n, l, dump);
+        put_position(words, l, &mut dump[n * l..n * l + n]);
     }
 }
 
@@ -54,12 +54,12 @@ fn with_bit(a: u32, x: u8, k: usize, l: usize) -> u32
     requires { (a < 2 ^ l) × (k < 8) × (l < 32) }
     ensures { result ≡ bit k x * 2 ^ l + a }
 {
-    ((((x as u32) >> k) % 2) << l) + a
+    (((u32::from(x) >> k) % 2) << l) + a
 }
 
 // The words of block j of the n blocks of a dump.
 fn words_at(dump: &[u8], n: usize, j: usize) -> [u32; 8]
-    requires { (n ≤ 5) × (j < n) × (length dump.now ≡ 32 * n) }
+    requires { (j < n) × (length dump.now ≡ 32 * n) }
     ensures { result ≡ words_of (block_at n j dump.now) }
 {
     let mut words = [0; 8];
@@ -73,7 +73,7 @@ fn words_at(dump: &[u8], n: usize, j: usize) -> [u32; 8]
 
 // The words of the n blocks of a dump.
 fn put_blocks(dump: &[u8], n: usize, words: &mut [u32])
-    requires { (n ≤ 5) × (length dump.now ≡ 32 * n) × (length words.old ≡ 8 * n) }
+    requires { (length dump.now ≡ 32 * n) × (length words.old ≡ 8 * n) }
     ensures { words.new ≡ words_of_all (undump n dump.now) }
 {
     // A range: what is written through chunks_exact_mut isn't known to a proof.

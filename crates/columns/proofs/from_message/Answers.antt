@@ -30,7 +30,7 @@ unfolding message_refusals
 whole b d e = message-due b d (sym e)
 
 pub put_dump-requires : goal.put_dump-requires
-put_dump-requires c = (omega arith, refl, (whole _ _ c.in_ok-lengths.ensures).1)
+put_dump-requires c = (refl, (whole _ _ c.in_ok-lengths.ensures).1)
 
 -- the words of the first 32 bytes are one block
 one : (x : List ℕ) (b : Block) → length x ≡ 32 → b ≡ first_block x → blocks_of 1 (words_of b) ≡ block_of x ∷ []

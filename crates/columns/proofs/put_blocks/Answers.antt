@@ -30,7 +30,7 @@ loop-j-preserved c =
     let e =
     part_set (8 * l.j) (8 * l.j + 8 - 8 * l.j) c.copy_from_slice.new.self l.words (omega (arith, ap length i, eight a.n a.dump.now l.j))
     ∙ rw (i, l.invariant.2) (rows_more 8 f a.words.now l.j (λ i h. eight a.n a.dump.now i)) in
-    (omega arith, ap length e ∙ rows-length 8 f a.words.now (l.j + 1) (λ i h. eight a.n a.dump.now i) a.n (omega arith) p.2, e)
+    (omega arith, ap length e ∙ rows-length 8 f a.words.now (l.j + 1) (λ i h. eight a.n a.dump.now i) a.n (omega arith) p.1, e)
 
 pub returns : goal.returns
 unfolding undump read
@@ -40,5 +40,5 @@ returns c =
     let l = c.loop-j in
     let e : l.j ≡ a.n = omega arith in
     (rw e at l.invariant.2)
-    ∙ rows_all 8 (read a.n a.dump.now) a.words.now a.n (λ i h. eight a.n a.dump.now i) p.2
+    ∙ rows_all 8 (read a.n a.dump.now) a.words.now a.n (λ i h. eight a.n a.dump.now i) p.1
     ∙ sym (words-rows a.n (λ j. block_at a.n j a.dump.now))

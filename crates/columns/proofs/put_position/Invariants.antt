@@ -1,7 +1,7 @@
 -- The invariants of `columns::put_position`.
 use mathlib.Core.Path.{◌≡◌}
 use mathlib.Core.List.{List}
-use Prim.Native.Nat.{ℕ, ◌+◌, ◌*◌, ◌≤◌}
+use Prim.Native.Nat.{ℕ, ◌*◌, ◌≤◌}
 use lib.ListN.{length, drop}
 use Rattle.definition.specs.Block.{block_from}
 use Rattle.definition.specs.Buffer.{overwrite_at}
@@ -18,10 +18,9 @@ abbrev pub invariant-loop-j : goal.invariant-loop-j
 invariant-loop-j l =
     let it = l.j-iterator in
     record {
-      few : it.count ≤ l.n;
       size : it.iter.size ≡ 8;
       rest : it.iter.rest.now ≡ drop (8 * it.count) l.words;
-      room : l.n * l.l + l.n ≤ length l.initial.dump;
-      long : length l.dump ≡ length l.initial.dump;
-      written : l.dump ≡ overwrite_at (l.n * l.l) (up_to it.count (byte l.l l.words)) l.initial.dump;
+      few : it.count ≤ length l.initial.bytes;
+      long : length l.bytes ≡ length l.initial.bytes;
+      written : l.bytes ≡ overwrite_at 0 (up_to it.count (byte l.l l.words)) l.initial.bytes;
     }

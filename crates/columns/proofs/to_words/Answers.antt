@@ -2,7 +2,6 @@
 -- Assumes nothing.
 use mathlib.Core.Path.{refl, sym, ap, ◌∙◌}
 use native.Mathlib.Omega.{arith}
-use Rattle.definition.specs.Width.{width_at}
 use Rattle.definition.proofs.Chain.{count_le}
 use Rattle.hash_definition.specs.Said.{done}
 use Rattle.hash_definition.proofs.Refused.{refused, accepted}
@@ -23,7 +22,7 @@ unfolding words_refusals blocks_at
 put_blocks-requires c =
     let a = c.args in
     let d = due a.code _ _ _ _ (sym (judged _ c.width.ensures c.count-n.ensures _ _ c.in_ok-refusal.ensures)) in
-    rw (count _ c.width.ensures c.count-n.ensures) (count_le (width_at a.code), d.1, d.2)
+    rw (count _ c.width.ensures c.count-n.ensures) (d.1, d.2)
 
 pub returns : goal.returns
 unfolding to_words_outcome

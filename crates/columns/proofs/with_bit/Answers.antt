@@ -12,7 +12,7 @@ unfolding bit
 overflow_add-result c =
     let a = c.args in
     let p = c.requires in
-    rw (bit_shifted (bit a.k a.x) a.l a.a (bit_lt a.k a.x) p.2 p.0)
+    rw (c.from.ensures, bit_shifted (bit a.k a.x) a.l a.a (bit_lt a.k a.x) p.2 p.0)
     (record { fits = bit_fits (bit a.k a.x) a.l a.a (bit_lt a.k a.x) p.2 p.0 })
 
 pub returns : goal.returns
@@ -20,4 +20,4 @@ unfolding bit
 returns c =
     let a = c.args in
     let p = c.requires in
-    ap (λ (n : ℕ). n + a.a) (bit_shifted (bit a.k a.x) a.l a.a (bit_lt a.k a.x) p.2 p.0)
+    rw c.from.ensures (ap (λ (n : ℕ). n + a.a) (bit_shifted (bit a.k a.x) a.l a.a (bit_lt a.k a.x) p.2 p.0))

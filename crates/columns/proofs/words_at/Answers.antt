@@ -51,7 +51,7 @@ with_bit-requires c =
     let k = c.loop-k in
     let s = c.in-Some.ensures.steps in
     let h : l.l-iterator.count < 32 =
-    within a.n a.dump.now c.requires.2 l.l-iterator.count c.in-Some.column.now c.next.new.self.iter.rest.now (omega arith) l.invariant.few
+    within a.n a.dump.now c.requires.1 l.l-iterator.count c.in-Some.column.now c.next.new.self.iter.rest.now (omega arith) l.invariant.few
     (sym l.invariant.rest ∙ s.0.1.0) (s.0.1.1 ∙ l.invariant.size) in
     (rw (k.invariant.due k.k (omega arith) (omega arith)) (bits_below c.in-Some.l a.n a.j k.k a.dump.now), omega arith, omega arith)
 
@@ -83,7 +83,7 @@ loop-l-preserved c =
     let s = c.in-Some.ensures.steps in
     let r : drop (a.n * l.l-iterator.count) a.dump.now ≡ c.in-Some.column.now ++ c.next.new.self.iter.rest.now = sym l.invariant.rest ∙ s.0.1.0 in
     let z : length c.in-Some.column.now ≡ a.n = s.0.1.1 ∙ l.invariant.size in
-    let h : l.l-iterator.count < 32 = within a.n a.dump.now c.requires.2 l.l-iterator.count _ _ (omega arith) l.invariant.few r z in
+    let h : l.l-iterator.count < 32 = within a.n a.dump.now c.requires.1 l.l-iterator.count _ _ (omega arith) l.invariant.few r z in
     record {
       few = omega arith;
       size = s.0.0 ∙ l.invariant.size;
@@ -98,5 +98,5 @@ returns c =
     let l = c.loop-l in
     let s = c.in-None.ensures.steps in
     let e : l.l-iterator.count ≡ 32 =
-    full a.n a.dump.now c.requires.2 l.l-iterator.count l.invariant.few (rw (l.invariant.rest, l.invariant.size) at s.0.1.0) in
+    full a.n a.dump.now c.requires.1 l.l-iterator.count l.invariant.few (rw (l.invariant.rest, l.invariant.size) at s.0.1.0) in
     bits_all a.n a.j a.dump.now l.words l.invariant.eight (λ k h. rw e at (l.invariant.words k h))
