@@ -1,23 +1,27 @@
 -- A block's words as they are read, column by column and bit by bit; and what a call with a code is refused for.
 -- Assumes nothing.
 use mathlib.Core.Path.{◌≡◌, refl, sym, ap, ◌∙◌}
-use mathlib.Core.List.{List, [], ◌∷◌, ◌++◌}
-use Prim.Native.Nat.{ℕ, suc, ◌+◌, ◌*◌, ◌%◌, ◌^◌, ◌<◌, ◌≤◌}
+use mathlib.Core.List.{List, [], ◌∷◌, ◌++◌, map}
+use Prim.Native.Nat.{ℕ, zero, suc, ◌+◌, ◌*◌, ◌%◌, ◌^◌, ◌<◌, ◌≤◌}
 use native.Mathlib.Nat.{mul-suc, mul-le-mul_right, mod-eq_of_lt, pow-suc}
 use native.Mathlib.Numerals.{add-one}
 use native.Mathlib.Omega.{arith}
 use lib.ListN.{length, get_or, drop, get_or-append}
 use lib.Pow.{pow_mono}
 use lib.Seq.{get_or-drop, drop_at, drop-drop, ext_get_or}
+use Rattle.std.specs.Simd.{first_chunks}
 use Rattle.definition.specs.declared.Width.{Width}
+use Rattle.definition.specs.declared.Block.{Block}
 use Rattle.definition.specs.Word.{bit, from_bits}
-use Rattle.definition.specs.Block.{words_of}
+use Rattle.definition.specs.Block.{zero_block, words_of, block_from}
 use Rattle.definition.specs.Refusal.{first_of, width_refusal}
 use Rattle.definition.specs.Width.{width_at, block_count}
 use Rattle.definition.proofs.Bits.{bit_lt, from_bits-lt}
-use Rattle.columns_definition.specs.Dump.{block_to, block_at}
+use Rattle.columns_definition.specs.Dump.{block_to, block_at, blocks_of}
 use Rattle.columns_definition.specs.Columns.{blocks_at, columns_refusal, words_refusals}
 use Rattle.columns_definition.proofs.Dumps.{word_to}
+use Rattle.columns_definition.proofs.Rows.{up_to-of}
+use Rattle.columns_definition.proofs.Words.{first_eight}
 
 -- a bit above l others makes no more than a word
 pub bit_fits : (y l a : ℕ) → y < 2 → l < 32 → a < 2 ^ l → y * 2 ^ l + a < 2 ^ 32
@@ -62,6 +66,25 @@ next_byte n l j d column rest e s h =
 pub next_rest : (n l : ℕ) (d column rest : List ℕ) → drop (n * l) d ≡ column ++ rest → length column ≡ n → rest ≡ drop (n * (l + 1)) d
 next_rest n l d column rest e s =
     sym (drop_at column rest n s) ∙ ap (drop n) (sym e) ∙ drop-drop n (n * l) d ∙ ap (λ (i : ℕ). drop i d) (rw (add-one l) (sym (mul-suc n l)))
+
+-- eight words at a time are the blocks
+chunked_at : (k j : ℕ) (ws : List ℕ) (d : Block) → j < k → block_from (drop (8 * j) ws) ≡ get_or (map block_from (first_chunks 8 k ws)) j d
+unfolding block_from
+chunked_at zero j ws d h = absurd (omega arith)
+chunked_at (suc k) zero ws d h = let e : 8 * 0 ≡ 0 = omega arith in rw e (first_eight ws)
+chunked_at (suc k) (suc j) ws d h =
+    let e : 8 + 8 * j ≡ 8 * suc j = omega arith in
+    let t : drop (8 * j) (drop 8 ws) ≡ drop (8 * suc j) ws = rw (drop-drop (8 * j) 8 ws, e) in
+    ap block_from (sym t) ∙ chunked_at k j (drop 8 ws) d (omega arith)
+
+length-chunked : (k : ℕ) (ws : List ℕ) → length (map block_from (first_chunks 8 k ws)) ≡ k
+length-chunked zero ws = refl
+length-chunked (suc k) ws = ap (λ (n : ℕ). suc n) (length-chunked k (drop 8 ws))
+
+pub chunked : (k : ℕ) (ws : List ℕ) → map block_from (first_chunks 8 k ws) ≡ blocks_of k ws
+unfolding blocks_of
+chunked k ws =
+    sym (up_to-of k (λ j. block_from (drop (8 * j) ws)) (map block_from (first_chunks 8 k ws)) zero_block (length-chunked k ws) (λ j h. chunked_at k j ws zero_block h))
 
 -- of a call at a code's w and so many blocks
 module _ (code : ℕ) {w : Width} {n : ℕ} (k : w ≡ width_at code) (e : n ≡ block_count w) where

@@ -1,19 +1,19 @@
 // States and message blocks by columns, for the commissioning crew (document 02, Q-12): from words, to words, and from a message block.
 #![tactic(auto)]
 
-ghost use Rattle.std.specs.Prelude.{◌≡◌, ◌+◌, ◌*◌, ◌^◌, ◌<◌, length};
+ghost use Rattle.std.specs.Prelude.{◌≡◌, ◌+◌, ◌*◌, ◌^◌, ◌<◌, length, map};
 ghost use Rattle.definition.specs.Word.{bit};
 ghost use Rattle.definition.specs.Block.{words_of, words_of_all, block_from};
 ghost use Rattle.definition.specs.Field.{element as element_of};
-ghost use Rattle.columns_definition.specs.Dump.{column, dump as dump_of, block_at, undump, blocks_of};
+ghost use Rattle.columns_definition.specs.Dump.{column, dump as dump_of, block_at, undump};
 ghost use Rattle.refusals.specs.Number.{number_of};
 ghost use Rattle.columns_definition.specs.Columns.{from_words_outcome, to_words_outcome, from_message_outcome};
 
 use refusals::Refusal;
 
-// A block's byte at position l, by its words: bit k is bit l of word k.
-fn element(b: &[u32], l: usize) -> u8
-    requires { (length b.now ≡ 8) × (l < 32) }
+// A block's byte at position l, by its words: bit k is bit l of word k. A shift asks that l is below 32.
+fn element(b: &[u32; 8], l: usize) -> u8
+    requires { l < 32 }
     ensures { result ≡ element_of l (block_from b.now) }
 {
     let x7 = (b[7] >> l) % 2;
@@ -27,25 +27,26 @@ fn element(b: &[u32], l: usize) -> u8
     (x1 * 2 + (b[0] >> l) % 2) as u8
 }
 
-// The bytes of blocks of words at position l, one for each block.
-fn put_position(words: &[u32], l: usize, bytes: &mut [u8])
-    requires { (l < 32) × (length words.now ≡ 8 * length bytes.old) }
-    ensures { bytes.new ≡ column l (blocks_of (length bytes.old) words.now) }
+// The bytes of blocks at position l, one for each block. They are lent, as many as the blocks: a list of any length is returned from no function.
+fn put_position(blocks: &[[u32; 8]], l: usize, bytes: &mut [u8])
+    requires { (l < 32) × (length bytes.old ≡ length blocks.now) }
+    ensures { bytes.new ≡ column l (map block_from blocks.now) }
 {
     // Written by place: what is written through a zip with iter_mut isn't known to a proof.
-    for (j, block) in words.chunks_exact(8).enumerate() {
+    for (j, block) in blocks.iter().enumerate() {
         bytes[j] = element(block, l);
     }
 }
 
-// The dump of n blocks of words.
-fn put_dump(words: &[u32], n: usize, dump: &mut [u8])
-    requires { (length words.now ≡ 8 * n) × (length dump.old ≡ 32 * n) }
-    ensures { dump.new ≡ dump_of (blocks_of n words.now) }
+// The dump of blocks.
+fn put_dump(blocks: &[[u32; 8]], dump: &mut [u8])
+    requires { length dump.old ≡ 32 * length blocks.now }
+    ensures { dump.new ≡ dump_of (map block_from blocks.now) }
 {
+    let n = blocks.len();
     // A range: what is written through chunks_exact_mut isn't known to a proof.
     for l in 0..32usize {
-        put_position(words, l, &mut dump[n * l..n * l + n]);
+        put_position(blocks, l, &mut dump[n * l..n * l + n]);
     }
 }
 
@@ -57,7 +58,7 @@ fn with_bit(a: u32, x: u8, k: usize, l: usize) -> u32
     (((u32::from(x) >> k) % 2) << l) + a
 }
 
-// The words of block j of the n blocks of a dump.
+// The words of block j of the n blocks of a dump. n stands beside the dump: as_chunks has a constant for a size, and a column has n bytes.
 fn words_at(dump: &[u8], n: usize, j: usize) -> [u32; 8]
     requires { (j < n) × (length dump.now ≡ 32 * n) }
     ensures { result ≡ words_of (block_at n j dump.now) }
@@ -71,7 +72,7 @@ fn words_at(dump: &[u8], n: usize, j: usize) -> [u32; 8]
     words
 }
 
-// The words of the n blocks of a dump.
+// The words of the n blocks of a dump. The words aren't lent as blocks: as_chunks_mut doesn't say what they end as.
 fn put_blocks(dump: &[u8], n: usize, words: &mut [u32])
     requires { (length dump.now ≡ 32 * n) × (length words.old ≡ 8 * n) }
     ensures { words.new ≡ words_of_all (undump n dump.now) }
@@ -88,7 +89,7 @@ pub fn from_words(code: usize, words: &[u32], dump: &mut [u8]) -> Result<(), Ref
 {
     let n = blocks::count(codes::width(code));
     columns_judge::refusal(code, dump.len(), words.len(), 8 * n)?;
-    put_dump(words, n, dump);
+    put_dump(words.as_chunks().0, dump);
     Ok(())
 }
 
@@ -109,6 +110,6 @@ pub fn from_message(block: &[u8], dump: &mut [u8]) -> Result<(), Refusal>
     columns_judge::lengths(block.len(), 32, dump.len(), 32)?;
     let b = octets::block(block);
     let words = [b.a0, b.a1, b.a2, b.a3, b.a4, b.a5, b.a6, b.a7];
-    put_dump(&words, 1, dump);
+    put_dump(&[words], dump);
     Ok(())
 }

@@ -1,7 +1,7 @@
 -- `columns::from_message` meets its contract: past its refusal the dump of the one block is written.
 -- Assumes nothing.
 use mathlib.Core.Path.{◌≡◌, refl, sym, ap, ◌∙◌}
-use mathlib.Core.List.{List, [], ◌∷◌}
+use mathlib.Core.List.{List, [], ◌∷◌, map}
 use Prim.Native.Nat.{ℕ}
 use native.Mathlib.Omega.{arith}
 use lib.ListN.{length}
@@ -13,7 +13,7 @@ use Rattle.octets.proofs.Total.{whole-block}
 use Rattle.hash_definition.specs.Said.{done}
 use Rattle.hash_definition.proofs.Refused.{refused, accepted}
 use Rattle.refusals.proofs.Judged.{handed_on, isnt_done}
-use Rattle.columns_definition.specs.Dump.{up_to, dump, blocks_of}
+use Rattle.columns_definition.specs.Dump.{dump}
 use Rattle.columns_definition.specs.Columns.{columns_refusal, message_refusals, from_message_outcome}
 use Rattle.columns_definition.proofs.Calls.{message-due}
 use Rattle.columns.proofs.from_message.Goals as goal
@@ -30,11 +30,11 @@ unfolding message_refusals
 whole b d e = message-due b d (sym e)
 
 pub put_dump-requires : goal.put_dump-requires
-put_dump-requires c = (refl, (whole _ _ c.in_ok-lengths.ensures).1)
+put_dump-requires c = (whole _ _ c.in_ok-lengths.ensures).1
 
 -- the words of the first 32 bytes are one block
-one : (x : List ℕ) (b : Block) → length x ≡ 32 → b ≡ first_block x → blocks_of 1 (words_of b) ≡ block_of x ∷ []
-unfolding blocks_of up_to words_of block_from
+one : (x : List ℕ) (b : Block) → length x ≡ 32 → b ≡ first_block x → map block_from (words_of b ∷ []) ≡ block_of x ∷ []
+unfolding words_of block_from
 one x b h e = ap (λ (b : Block). b ∷ []) (e ∙ whole-block x (omega arith))
 
 pub returns : goal.returns

@@ -1,26 +1,26 @@
 -- `columns::put_dump` meets its contract. The loop's invariant: the first l positions are written.
 -- Assumes nothing.
 use mathlib.Core.Path.{◌≡◌, refl, ap, ◌∙◌}
-use mathlib.Core.List.{List}
+use mathlib.Core.List.{List, map}
 use Prim.Native.Nat.{ℕ, ◌+◌, ◌-◌, ◌*◌, ◌<◌}
 use native.Mathlib.Nat.{mul_comm}
 use native.Mathlib.Omega.{arith}
-use lib.ListN.{length, take, drop, length-drop}
+use lib.ListN.{length, take, drop, length-drop, length-map}
 use lib.Seq.{length-take-le}
-use Rattle.columns_definition.specs.Dump.{dump, blocks_of}
-use Rattle.columns_definition.proofs.Calls.{length-blocks}
+use Rattle.definition.specs.Block.{block_from}
+use Rattle.columns_definition.specs.Dump.{dump}
 use Rattle.columns_definition.proofs.Dumps.{length_column_of}
 use Rattle.columns_definition.proofs.Filling.{part_set, rows_none, rows_more, rows-length, rows_all}
 use Rattle.columns_definition.proofs.Rows.{row_inside}
 use Rattle.columns.proofs.put_dump.Invariants.{bytes}
 use Rattle.columns.proofs.put_dump.Goals as goal
 
-length-bytes : (n : ℕ) (ws : List ℕ) (l : ℕ) → length (bytes n ws l) ≡ n
+length-bytes : (blocks : List (List ℕ)) (l : ℕ) → length (bytes blocks l) ≡ length blocks
 unfolding bytes
-length-bytes n ws l = length_column_of l (blocks_of n ws) ∙ length-blocks n ws
+length-bytes blocks l = length_column_of l (map block_from blocks) ∙ length-map blocks block_from
 
 pub loop-l-init : goal.loop-l-init
-loop-l-init c = let a = c.args in (omega arith, refl, rows_none a.n _ _)
+loop-l-init c = (omega arith, refl, rows_none (length c.args.blocks.now) _ _)
 
 -- n bytes stand at each of the 32 positions
 part : (n l : ℕ) (d : List ℕ) → l < 32 → length d ≡ 32 * n → length (take (n * l + n - n * l) (drop (n * l) d)) ≡ n
@@ -31,24 +31,23 @@ part n l d h e =
 pub put_position-requires : goal.put_position-requires
 put_position-requires c =
     let a = c.args in
-    let p = c.requires in
     let l = c.loop-l in
-    (omega arith, rw (part a.n l.l l.dump (omega arith) (l.invariant.1 ∙ p.1)) p.0)
+    (omega arith, part (length a.blocks.now) l.l l.dump (omega arith) (l.invariant.1 ∙ c.requires))
 
 pub loop-l-preserved : goal.loop-l-preserved
 unfolding bytes
 loop-l-preserved c =
     let a = c.args in
-    let p = c.requires in
     let l = c.loop-l in
-    let f : ℕ → List ℕ = bytes a.n a.words.now in
-    let rows : (i : ℕ) → length (f i) ≡ a.n = length-bytes a.n a.words.now in
-    let i : c.put_position.new.bytes ≡ f l.l = c.put_position.ensures ∙ rw (part a.n l.l l.dump (omega arith) (l.invariant.1 ∙ p.1)) in
+    let n : ℕ = length a.blocks.now in
+    let f : ℕ → List ℕ = bytes a.blocks.now in
+    let rows : (i : ℕ) → length (f i) ≡ n = length-bytes a.blocks.now in
+    let i : c.put_position.new.bytes ≡ f l.l = c.put_position.ensures in
     let e =
-    part_set (a.n * l.l) (a.n * l.l + a.n - a.n * l.l) c.put_position.new.bytes l.dump (omega (arith, ap length i, rows l.l))
-    ∙ rw (i, l.invariant.2) (rows_more a.n f a.dump.now l.l (λ i h. rows i)) in (
+    part_set (n * l.l) (n * l.l + n - n * l.l) c.put_position.new.bytes l.dump (omega (arith, ap length i, rows l.l))
+    ∙ rw (i, l.invariant.2) (rows_more n f a.dump.now l.l (λ i h. rows i)) in (
       omega arith,
-      ap length e ∙ rows-length a.n f a.dump.now (l.l + 1) (λ i h. rows i) 32 (omega arith) (p.1 ∙ mul_comm 32 a.n),
+      ap length e ∙ rows-length n f a.dump.now (l.l + 1) (λ i h. rows i) 32 (omega arith) (c.requires ∙ mul_comm 32 n),
       e,
     )
 
@@ -56,10 +55,10 @@ pub returns : goal.returns
 unfolding dump bytes
 returns c =
     let a = c.args in
-    let p = c.requires in
     let l = c.loop-l in
+    let n : ℕ = length a.blocks.now in
     let e : l.l ≡ 32 = omega arith in
-    (rw e at l.invariant.2) ∙ rows_all a.n (bytes a.n a.words.now) a.dump.now 32 (λ i h. length-bytes a.n a.words.now i) (p.1 ∙ mul_comm 32 a.n)
+    (rw e at l.invariant.2) ∙ rows_all n (bytes a.blocks.now) a.dump.now 32 (λ i h. length-bytes a.blocks.now i) (c.requires ∙ mul_comm 32 n)
 
 pub shape_of-dump : goal.shape_of-dump
 shape_of-dump c =
