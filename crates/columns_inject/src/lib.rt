@@ -1,7 +1,7 @@
 // Injection on a dump by columns (document 02, Q-12): the matrices of the source, 3.2.1 to 3.2.3, at each of the 32 positions, by the product tables.
 #![tactic(auto)]
 
-ghost use Rattle.std.specs.Prelude.{◌≡◌, ◌*◌, ◌≤◌, [], ◌∷◌, ◌++◌, length, map};
+ghost use Rattle.std.specs.Prelude.{◌≡◌, ◌*◌, [], ◌∷◌, ◌++◌, length, map};
 ghost use Rattle.definition.specs.Field.{product};
 ghost use Rattle.definition.specs.Width.{block_count};
 ghost use Rattle.columns_definition.specs.Columns.{row_sum, inject_dump, inject_outcome};
@@ -95,7 +95,7 @@ fn inject_by<const W: usize>(
     dump: &mut [u8],
     message: &[u8],
 )
-    requires { (W ≤ 5) × (length dump.old ≡ 32 * W) × (length message.now ≡ 32) }
+    requires { (length dump.old ≡ 32 * W) × (length message.now ≡ 32) }
     ensures { dump.new ≡ injected (map numbers matrix.now) W dump.old message.now }
 {
     // Read and written by place: what is written through chunks_exact_mut isn't known to a proof.

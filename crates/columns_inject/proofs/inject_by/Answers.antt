@@ -26,7 +26,7 @@ more rows n d m s e l k before r h f b q =
     (t.0 ∙ e, t.1)
 
 pub loop-l-init : goal.loop-l-init
-loop-l-init g c = let a = c.args in (c.requires.1, injected_none (map numbers a.matrix.now) g.row.W a.dump.now a.message.now)
+loop-l-init g c = let a = c.args in (c.requires.0, injected_none (map numbers a.matrix.now) g.row.W a.dump.now a.message.now)
 
 pub loop-l-preserved : goal.loop-l-preserved
 loop-l-preserved g c =
@@ -34,7 +34,7 @@ loop-l-preserved g c =
     let l = c.loop-l in
     let n : ℕ = g.row.W in
     rw c.copy_from_slice.ensures.after
-    (more (map numbers a.matrix.now) n a.dump.now a.message.now (length-map a.matrix.now numbers ∙ c.type_inv.matrix) c.requires.1 l.l (n * l.l + n - n * l.l)
+    (more (map numbers a.matrix.now) n a.dump.now a.message.now (length-map a.matrix.now numbers ∙ c.type_inv.matrix) c.requires.0 l.l (n * l.l + n - n * l.l)
     l.dump c.mixed-column.result (omega arith) (omega arith) l.invariant.1 c.mixed-column.ensures)
 
 pub returns : goal.returns
@@ -43,4 +43,4 @@ returns g c =
     let l = c.loop-l in
     let e : l.l ≡ 32 = omega arith in
     (rw e at l.invariant.1)
-    ∙ injected_all (map numbers a.matrix.now) g.row.W a.dump.now a.message.now (length-map a.matrix.now numbers ∙ c.type_inv.matrix) c.requires.1
+    ∙ injected_all (map numbers a.matrix.now) g.row.W a.dump.now a.message.now (length-map a.matrix.now numbers ∙ c.type_inv.matrix) c.requires.0
