@@ -27,7 +27,7 @@ fn element(b: &[u32; 8], l: usize) -> u8
     (x1 * 2 + (b[0] >> l) % 2) as u8
 }
 
-// The bytes of blocks at position l, one for each block. They are lent, as many as the blocks: a list of any length is returned from no function.
+// The bytes of blocks at position l, one for each block. They are lent: with no heap a list of any length can't be returned.
 fn put_position(blocks: &[[u32; 8]], l: usize, bytes: &mut [u8])
     requires { (l < 32) × (length bytes.old ≡ length blocks.now) }
     ensures { bytes.new ≡ column l (map block_from blocks.now) }
@@ -50,7 +50,7 @@ fn put_dump(blocks: &[[u32; 8]], dump: &mut [u8])
     }
 }
 
-// A word of l bits with bit l, which is bit k of a byte.
+// A word of l bits with bit l, which is bit k of a byte. The shifts ask for the bounds of k and l.
 fn with_bit(a: u32, x: u8, k: usize, l: usize) -> u32
     requires { (a < 2 ^ l) × (k < 8) × (l < 32) }
     ensures { result ≡ bit k x * 2 ^ l + a }
