@@ -7,23 +7,24 @@ use Rattle.plan_definition.specs.Rules.{struck, has_number}
 use Rattle.plan_definition.specs.Sound.{Sound}
 use Rattle.plan_record.specs.Total.{well_in}
 use Rattle.plan_numbers.specs.Numbers.{has}
+use Rattle.plan.specs.Sets.{count_of, wells_of}
 use Rattle.reach_definition.specs.Chain.{Joined}
 
--- a sheet that is searched: it has its n records, and they make sense
-pub record Searched (sheet : List ℕ) (n : ℕ) : Type 0 where
-  pub room : 40 * n ≤ length sheet
-  pub sound : Sound (wells n sheet)
+-- records that are searched: each has its byte, and they make sense
+pub record Searched (records : List ℕ) (n : ℕ) : Type 0 where
+  pub room : 40 * n ≤ length records
+  pub sound : Sound (wells n records)
 
--- where the well of a number stands, if there is one
-pub record FoundAt (sheet : List ℕ) (n number place : ℕ) : Type 0 where
-  pub within : place < n
-  pub there : some (has_number number) (wells n sheet) ≡ true
-  pub stands-there : struck (well_in sheet place) ≡ false
-  pub number-there : (well_in sheet place).number ≡ number
+-- where the well of a number stands among records, if there is one
+pub record FoundAt (records : List ℕ) (number place : ℕ) : Type 0 where
+  pub within : place < count_of records
+  pub there : some (has_number number) (wells_of records) ≡ true
+  pub stands-there : struck (well_in records place) ≡ false
+  pub number-there : (well_in records place).number ≡ number
 
-abbrev pub Found : (sheet : List ℕ) → (n number : ℕ) → Option ℕ → Type 0
-Found sheet n k None = some (has_number k) (wells n sheet) ≡ false
-Found sheet n k (Some place) = FoundAt sheet n k place
+abbrev pub Found : (records : List ℕ) → (number : ℕ) → Option ℕ → Type 0
+Found records k None = some (has_number k) (wells_of records) ≡ false
+Found records k (Some place) = FoundAt records k place
 
 -- a producer that so many hops join to a well, and that an injector of a number is
 abbrev pub JoinedProducer : List Well → (hops : ℕ) → (from w : Well) → Type 0

@@ -9,8 +9,10 @@ ghost use Rattle.definition.specs.Refusal.{first_of};
 ghost use Rattle.refusals.specs.Number.{number_of};
 ghost use Rattle.plan_definition.specs.Well.{wells};
 ghost use Rattle.plan_definition.specs.Rules.{struck};
+ghost use Rattle.plan_definition.specs.Sound.{Sound};
 ghost use Rattle.plan_record.specs.Total.{well_in};
 ghost use Rattle.plan_numbers.specs.Numbers.{has};
+ghost use Rattle.plan.specs.Sets.{wells_of};
 ghost use Rattle.reach_definition.specs.Reach.{marks, reach_outcome};
 ghost use Rattle.reach.specs.Front.{front_refusals};
 ghost use Rattle.reach.specs.Sets.{touches, plus_named, plus_linked, MarkedBy};
@@ -19,17 +21,18 @@ ghost use Rattle.reach.specs.Level.{Searched, Found, Onward};
 use plan_definition::{INJECTOR, Link, PRODUCER, Well};
 use reach_definition::HOPS_MOST;
 use refusals::Refusal;
+use sheet_definition::RECORD;
 
 // The place of the well that has a number: no well has 0, and a struck record is none. The number is judged whole.
-fn find(sheet: &[u8], n: usize, well: usize) -> Option<usize>
-    requires { Searched sheet.now n }
-    ensures { Found sheet.now n well result }
+fn find(records: &[u8], well: usize) -> Option<usize>
+    requires { Sound (wells_of records.now) }
+    ensures { Found records.now well result }
 {
     if well == 0 {
         return None;
     }
-    for i in 0..n {
-        let w = plan_record::read(sheet, i);
+    for i in 0..records.len() / RECORD {
+        let w = plan_record::read(records, i);
         if usize::from(w.number) == well {
             return Some(i);
         }
@@ -68,26 +71,26 @@ fn touched(w: Well, kind: u8, taken: &[u64; 1024]) -> bool
 }
 
 // The injectors that marked wells link put into the set. A byte stands for each record of the sheet, here and below.
-fn take_linked(sheet: &[u8], reached: &[u8], taken: &mut [u64; 1024])
-    requires { Searched sheet.now (length reached.now) }
-    ensures { has taken.new ≡ plus_linked reached.now (wells (length reached.now) sheet.now) (has taken.old) }
+fn take_linked(records: &[u8], reached: &[u8], taken: &mut [u64; 1024])
+    requires { Searched records.now (length reached.now) }
+    ensures { has taken.new ≡ plus_linked reached.now (wells (length reached.now) records.now) (has taken.old) }
 {
     // Over the places: with `enumerate` a search from a producer takes about 4 in 100 longer.
     for i in 0..reached.len() {
         if reached[i] == 1 {
-            let w = plan_record::read(sheet, i);
+            let w = plan_record::read(records, i);
             take(&w.links[..usize::from(w.count)], taken);
         }
     }
 }
 
 // The wells of a kind that the set touches marked.
-fn mark(sheet: &[u8], kind: u8, taken: &[u64; 1024], reached: &mut [u8])
-    requires { Searched sheet.now (length reached.old) }
-    ensures { MarkedBy (has taken.now) kind (wells (length reached.old) sheet.now) reached.old reached.new }
+fn mark(records: &[u8], kind: u8, taken: &[u64; 1024], reached: &mut [u8])
+    requires { Searched records.now (length reached.old) }
+    ensures { MarkedBy (has taken.now) kind (wells (length reached.old) records.now) reached.old reached.new }
 {
     for (i, byte) in reached.iter_mut().enumerate() {
-        let w = plan_record::read(sheet, i);
+        let w = plan_record::read(records, i);
         if touched(w, kind, taken) {
             *byte = 1;
         }
@@ -97,45 +100,45 @@ fn mark(sheet: &[u8], kind: u8, taken: &[u64; 1024], reached: &mut [u8])
 // The steps that document 01 names. The hops left, where the next is from producers to the injectors that they link; and where it is from injectors
 // to the producers that link them.
 #[cycle(from_injectors_from_producers)]
-fn from_producers(sheet: &[u8], hops: usize, reached: &mut [u8], taken: &mut [u64; 1024])
-    requires { Searched sheet.now (length reached.old) }
-    ensures { Onward 1 (wells (length reached.old) sheet.now) hops reached.old taken.old reached.new taken.new }
+fn from_producers(records: &[u8], hops: usize, reached: &mut [u8], taken: &mut [u64; 1024])
+    requires { Searched records.now (length reached.old) }
+    ensures { Onward 1 (wells (length reached.old) records.now) hops reached.old taken.old reached.new taken.new }
 {
     if hops == 0 {
         return;
     }
-    take_linked(sheet, reached, taken);
-    from_injectors(sheet, hops - 1, reached, taken);
+    take_linked(records, reached, taken);
+    from_injectors(records, hops - 1, reached, taken);
 }
 
 #[cycle(from_injectors_from_producers)]
-fn from_injectors(sheet: &[u8], hops: usize, reached: &mut [u8], taken: &mut [u64; 1024])
-    requires { Searched sheet.now (length reached.old) }
-    ensures { Onward 2 (wells (length reached.old) sheet.now) hops reached.old taken.old reached.new taken.new }
+fn from_injectors(records: &[u8], hops: usize, reached: &mut [u8], taken: &mut [u64; 1024])
+    requires { Searched records.now (length reached.old) }
+    ensures { Onward 2 (wells (length reached.old) records.now) hops reached.old taken.old reached.new taken.new }
 {
     if hops == 0 {
         return;
     }
-    mark(sheet, PRODUCER, taken, reached);
-    from_producers(sheet, hops - 1, reached, taken);
+    mark(records, PRODUCER, taken, reached);
+    from_producers(records, hops - 1, reached, taken);
 }
 
 // The marks of a sound sheet's records from the well at a place.
-fn search(sheet: &[u8], place: usize, hops: usize, reached: &mut [u8])
-    requires { Searched sheet.now (length reached.old) × (place < length reached.old) × (struck (well_in sheet.now place) ≡ false) }
-    ensures { reached.new ≡ marks (wells (length reached.old) sheet.now) (well_in sheet.now place).number hops }
+fn search(records: &[u8], place: usize, hops: usize, reached: &mut [u8])
+    requires { Searched records.now (length reached.old) × (place < length reached.old) × (struck (well_in records.now place) ≡ false) }
+    ensures { reached.new ≡ marks (wells (length reached.old) records.now) (well_in records.now place).number hops }
 {
     reached.fill(0);
     let mut taken = [0u64; 1024];
-    let w = plan_record::read(sheet, place);
+    let w = plan_record::read(records, place);
     if w.kind == PRODUCER {
         reached[place] = 1;
-        from_producers(sheet, hops, reached, &mut taken);
+        from_producers(records, hops, reached, &mut taken);
     } else {
         plan_numbers::put(&mut taken, w.number);
-        from_injectors(sheet, hops, reached, &mut taken);
+        from_injectors(records, hops, reached, &mut taken);
     }
-    mark(sheet, INJECTOR, &taken, reached);
+    mark(records, INJECTOR, &taken, reached);
 }
 
 // The refusals that are judged before a well is looked for: 5, 19 and 20. What a sheet means is asked only if there are records to read.
@@ -158,8 +161,9 @@ pub fn reach(
     ensures { record { number = number_of result; reached = reached.new } ≡ reach_outcome sheet.now n well hops reached.old }
 {
     judged(sheet, n, hops)?;
-    let place = find(sheet, n, well).ok_or(Refusal::Well)?;
+    let records = &sheet[..RECORD * n];
+    let place = find(records, well).ok_or(Refusal::Well)?;
     Refusal::Reach.when(reached.len() < n)?;
-    search(sheet, place, hops, &mut reached[..n]);
+    search(records, place, hops, &mut reached[..n]);
     Ok(())
 }

@@ -25,7 +25,7 @@ touched-requires c = few-links c.requires.sound (read-among c.requires {i = c.lo
 -- what is told is the test at the place
 told : (c : goal.Joined-touched) →
     let a = c.args in
-    test a.sheet.now a.taken.now a.kind c.loop-i.i ≡ c.touched.result
+    test a.records.now a.taken.now a.kind c.loop-i.i ≡ c.touched.result
 told c =
     let a = c.args in
     let w = read_at c.requires {i = c.loop-i.i} (omega arith) c.read-w.ensures in
@@ -36,7 +36,7 @@ unfolding pick
 loop-i-preserved c =
     let a = c.args in
     let l = c.loop-i in
-    let f = test a.sheet.now a.taken.now a.kind in
+    let f = test a.records.now a.taken.now a.kind in
     let next = next-byte f l.i a.reached.now l.reached c.if-touched.reached (omega (arith, l.auto.reached)) l.invariant in
     rw (add-one l.i) (elim c.if-touched.branch [
       | then-touched s ↦ next true (told c ∙ s.if-touched.true) s.reached-is
@@ -48,5 +48,5 @@ unfolding well_of
 returns c =
     let l = c.loop-i in
     let a = c.args in
-    at_each a.sheet.now (length a.reached.now) (λ w. get_or l.reached w.place 0 ≡ pick (touches (has a.taken.now) a.kind w) 1 (get_or a.reached.now w.place 0))
+    at_each a.records.now (length a.reached.now) (λ w. get_or l.reached w.place 0 ≡ pick (touches (has a.taken.now) a.kind w) 1 (get_or a.reached.now w.place 0))
     (λ p h. l.invariant.below p (omega (arith, l.auto.reached)))

@@ -23,16 +23,16 @@ zeros c = search rules
 
 -- the well that was read
 the_well : (c : goal.After-slice_known-3-1) → let a = c.args in
-    c.read-w.result ≡ well_at a.place a.sheet.now
+    c.read-w.result ≡ well_at a.place a.records.now
 the_well c = read_at c.requires.0 {i = c.args.place} c.requires.1 c.read-w.ensures
 
 -- which isn't struck
-stands : (s : goal.After-slice_known-3-1) → struck (well_at s.args.place s.args.sheet.now) ≡ false
+stands : (s : goal.After-slice_known-3-1) → struck (well_at s.args.place s.args.records.now) ≡ false
 stands s = rw (reads s.requires.0 {i = s.args.place} s.requires.1) at s.requires.2
 
 -- so many hops from the well
 level : (c : goal.After-slice_known-3-1) → let a = c.args in
-    Level (wells (length a.reached.now) a.sheet.now) (well_at a.place a.sheet.now) a.hops c.if-w-eq-PRODUCER.reached (has c.if-w-eq-PRODUCER.taken)
+    Level (wells (length a.reached.now) a.records.now) (well_at a.place a.records.now) a.hops c.if-w-eq-PRODUCER.reached (has c.if-w-eq-PRODUCER.taken)
 level c =
     let a = c.args in
     let kind = ap (λ (w : Well). w.kind) (the_well c) in

@@ -19,17 +19,17 @@ use Rattle.reach.proofs.take_linked.Goals as goal
 use Rattle.reach.proofs.take_linked.Goals.{then-reached-i-eq1, else-reached-i-eq1}
 
 pub loop-i-init : goal.loop-i-init
-loop-i-init c = λ k. rw (left_all (length c.args.reached.now) c.args.sheet.now)
+loop-i-init c = λ k. rw (left_all (length c.args.reached.now) c.args.records.now)
 
 -- the well at the place, those after it and what is in the set
 step : (c : goal.Joined-reached-i-eq1) (k : ℕ) →
     let r = c.args.reached.now in
     let n = length r in
-    let sheet = c.args.sheet.now in
+    let records = c.args.records.now in
     let l = c.loop-i in
-    (some (linked_from r k) (well_at l.i sheet ∷ left (suc l.i) n sheet) || has l.taken k)
-    ≡ (some (linked_from r k) (wells n sheet) || has c.args.taken.now k)
-step c k = rw (left_step (length c.args.reached.now) c.args.sheet.now c.loop-i.i (omega arith)) at (c.loop-i.invariant k)
+    (some (linked_from r k) (well_at l.i records ∷ left (suc l.i) n records) || has l.taken k)
+    ≡ (some (linked_from r k) (wells n records) || has c.args.taken.now k)
+step c k = rw (left_step (length c.args.reached.now) c.args.records.now c.loop-i.i (omega arith)) at (c.loop-i.invariant k)
 
 pub shared_ref_as_front-take : goal.shared_ref_as_front-take
 shared_ref_as_front-take c =
@@ -39,13 +39,13 @@ pub loop-i-preserved : goal.loop-i-preserved
 unfolding well_of used
 loop-i-preserved c =
     let r = c.args.reached.now in
-    let sheet = c.args.sheet.now in
+    let records = c.args.records.now in
     let l = c.loop-i in
-    let ws = left (suc l.i) (length r) sheet in
+    let ws = left (suc l.i) (length r) records in
     λ k. rw (add-one l.i) (elim c.if-reached-i-eq1.branch [
-      | then-reached-i-eq1 t ↦ with_linked r k (well_at l.i sheet) ws (has l.taken) (has c.if-reached-i-eq1.taken) t.read-w.result
+      | then-reached-i-eq1 t ↦ with_linked r k (well_at l.i records) ws (has l.taken) (has c.if-reached-i-eq1.taken) t.read-w.result
           (read_at c.requires {i = l.i} (omega arith) t.read-w.ensures) t.if-reached-i-eq1.true (rw t.taken-is (rw t.from.ensures at t.take.ensures)) ∙ step c k
-      | else-reached-i-eq1 t ↦ rw t.taken-is (with_unmarked r k (well_at l.i sheet) ws (has l.taken) t.if-reached-i-eq1.false ∙ step c k)
+      | else-reached-i-eq1 t ↦ rw t.taken-is (with_unmarked r k (well_at l.i records) ws (has l.taken) t.if-reached-i-eq1.false ∙ step c k)
     ])
 
 pub returns : goal.returns
@@ -54,4 +54,4 @@ returns c =
     let l = c.loop-i in
     let n = length c.args.reached.now in
     let e : l.i ≡ n = omega arith in
-    fun_ext (λ k. rw (left_none n c.args.sheet.now) at (rw e at (l.invariant k)))
+    fun_ext (λ k. rw (left_none n c.args.records.now) at (rw e at (l.invariant k)))

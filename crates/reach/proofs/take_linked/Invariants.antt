@@ -14,4 +14,4 @@ use Rattle.reach.proofs.take_linked.Given as goal
 abbrev pub invariant-loop-i : goal.invariant-loop-i
 invariant-loop-i l =
     let n = length l.reached in
-    (k : ℕ) → (some (linked_from l.reached k) (left l.i n l.sheet) || has l.taken k) ≡ (some (linked_from l.reached k) (wells n l.sheet) || has l.initial.taken k)
+    (k : ℕ) → (some (linked_from l.reached k) (left l.i n l.records) || has l.taken k) ≡ (some (linked_from l.reached k) (wells n l.records) || has l.initial.taken k)
