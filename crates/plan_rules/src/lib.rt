@@ -106,7 +106,7 @@ pub fn broken(w: Well, injectors: &[u64; 1024], seen: &[u64; 1024]) -> Option<Ru
     }
     // The links alone are copied: lent from w, they would have all of w copied.
     let links = w.links;
-    let (used, unused) = links.split_at(w.count as usize);
+    let (used, unused) = links.split_at(usize::from(w.count));
     let misnamed = links_break(used, injectors);
     let misshared = shares_break(used);
     if misnamed {

@@ -43,7 +43,7 @@ returns-then-is_some c = of_shape _ _ _ c.shaped-first.ensures (some_told _ (sym
 pub split_at-requires : goal.split_at-requires
 split_at-requires c =
     let four : length c.args.w.links ≡ 4 = search rules in
-    rw four (few-links _ (sym c.shaped-first.ensures ∙ none_told _ (sym c.is_some.ensures ∙ c.if-is_some.false))).0
+    rw (c.from.ensures, four) (few-links _ (sym c.shaped-first.ensures ∙ none_told _ (sym c.is_some.ensures ∙ c.if-is_some.false))).0
 
 -- the first four rules hold, so the other four decide
 module _ (f g : ℕ → Bool) (w : Well) (first : Option Rule) {ls : List Link} {l : Bool}
@@ -67,14 +67,14 @@ unfolding pick
 returns-then-misnamed c =
     let a = c.args in
     sym (after_links (has a.injectors.now) (has a.seen.now) a.w _ c.shaped-first.ensures (sym c.is_some.ensures ∙ c.if-is_some.false)
-    c.split_at.ensures.front c.links_break-misnamed.ensures ∙ rw c.if-misnamed.true)
+    (rw c.from.ensures at c.split_at.ensures.front) c.links_break-misnamed.ensures ∙ rw c.if-misnamed.true)
 
 pub returns-then-misshared : goal.returns-then-misshared
 unfolding pick
 returns-then-misshared c =
     let a = c.args in
     sym (after_shares (has a.injectors.now) (has a.seen.now) a.w _ c.shaped-first.ensures (sym c.is_some.ensures ∙ c.if-is_some.false)
-    c.split_at.ensures.front c.links_break-misnamed.ensures c.split_at.ensures.front_len c.shares_break-misshared.ensures
+    (rw c.from.ensures at c.split_at.ensures.front) c.links_break-misnamed.ensures (rw c.from.ensures at c.split_at.ensures.front_len) c.shares_break-misshared.ensures
     ∙ rw (c.if-misnamed.false, c.if-misshared.true))
 
 pub returns-then-some_set : goal.returns-then-some_set
@@ -82,8 +82,8 @@ unfolding pick
 returns-then-some_set c =
     let a = c.args in
     sym (after_unused (has a.injectors.now) (has a.seen.now) a.w _ c.shaped-first.ensures (sym c.is_some.ensures ∙ c.if-is_some.false)
-    c.split_at.ensures.front c.links_break-misnamed.ensures c.split_at.ensures.front_len c.shares_break-misshared.ensures
-    c.split_at.ensures.back c.some_set.ensures
+    (rw c.from.ensures at c.split_at.ensures.front) c.links_break-misnamed.ensures (rw c.from.ensures at c.split_at.ensures.front_len) c.shares_break-misshared.ensures
+    (rw c.from.ensures at c.split_at.ensures.back) c.some_set.ensures
     ∙ rw (c.if-misnamed.false, c.if-misshared.false, c.if-some_set.true))
 
 pub returns-then-has : goal.returns-then-has
@@ -91,8 +91,8 @@ unfolding pick
 returns-then-has c =
     let a = c.args in
     sym (after_unused (has a.injectors.now) (has a.seen.now) a.w _ c.shaped-first.ensures (sym c.is_some.ensures ∙ c.if-is_some.false)
-    c.split_at.ensures.front c.links_break-misnamed.ensures c.split_at.ensures.front_len c.shares_break-misshared.ensures
-    c.split_at.ensures.back c.some_set.ensures
+    (rw c.from.ensures at c.split_at.ensures.front) c.links_break-misnamed.ensures (rw c.from.ensures at c.split_at.ensures.front_len) c.shares_break-misshared.ensures
+    (rw c.from.ensures at c.split_at.ensures.back) c.some_set.ensures
     ∙ rw (c.if-misnamed.false, c.if-misshared.false, c.if-some_set.false, sym c.has.ensures ∙ c.if-has.true))
 
 pub returns-else-has : goal.returns-else-has
@@ -100,6 +100,6 @@ unfolding pick
 returns-else-has c =
     let a = c.args in
     sym (after_unused (has a.injectors.now) (has a.seen.now) a.w _ c.shaped-first.ensures (sym c.is_some.ensures ∙ c.if-is_some.false)
-    c.split_at.ensures.front c.links_break-misnamed.ensures c.split_at.ensures.front_len c.shares_break-misshared.ensures
-    c.split_at.ensures.back c.some_set.ensures
+    (rw c.from.ensures at c.split_at.ensures.front) c.links_break-misnamed.ensures (rw c.from.ensures at c.split_at.ensures.front_len) c.shares_break-misshared.ensures
+    (rw c.from.ensures at c.split_at.ensures.back) c.some_set.ensures
     ∙ rw (c.if-misnamed.false, c.if-misshared.false, c.if-some_set.false, sym c.has.ensures ∙ c.if-has.false))
