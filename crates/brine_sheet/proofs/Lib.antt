@@ -4,3 +4,4 @@ pub mod Sends
 pub mod Found
 pub mod Columns
 pub mod Alone
+pub mod Cut

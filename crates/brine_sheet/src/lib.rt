@@ -1,15 +1,15 @@
 // The brine statement of one sheet (document 02, Q-3), of which a batch is made.
 #![tactic(auto)]
 
-ghost use Rattle.std.specs.Prelude.{◌≡◌, true, [], ◌∷◌, ◌*◌, ◌≤◌, pos, length, replicate};
+ghost use Rattle.std.specs.Prelude.{◌≡◌, true, [], ◌∷◌, ◌≤◌, pos, length, replicate};
 ghost use Rattle.definition.specs.Refusal.{first_of};
 ghost use Rattle.refusals.specs.Number.{number, number_of};
-ghost use Rattle.plan_definition.specs.Well.{wells};
 ghost use Rattle.plan_definition.specs.Rules.{injector};
 ghost use Rattle.plan_definition.specs.Check.{sound};
 ghost use Rattle.brine_definition.specs.Count.{sum};
 ghost use Rattle.brine_definition.specs.Page.{spare_of, row_when, rows};
 ghost use Rattle.brine_definition.specs.Statement.{intakes, spares, below_zero, statement_of, refused_by, list_refusal, brine_refusals, brine_outcome};
+ghost use Rattle.plan.specs.Sets.{count_of, wells_of};
 ghost use Rattle.plan_places.specs.Places.{placed};
 ghost use Rattle.brine_sheet.specs.Stated.{Stated};
 ghost use Rattle.brine_sheet.specs.Table.{placed_if, table_after};
@@ -18,6 +18,7 @@ ghost use Rattle.brine_sheet.specs.Sent.{Named, AllNamed, brought_to, sent_to, A
 use brine_definition::{KILOGRAMS, Statement};
 use plan_definition::{INJECTOR, Link, PRODUCER, Well};
 use refusals::Refusal;
+use sheet_definition::RECORD;
 
 // What links at a rate bring, added to the intakes at the places of the injectors that they name.
 fn send(rate: u64, links: &[Link], places: &[u16; 65536], intake: &mut [u64])
@@ -31,12 +32,12 @@ fn send(rate: u64, links: &[Link], places: &[u16; 65536], intake: &mut [u64])
 }
 
 // What the producers of a sheet send, added to the intakes.
-fn send_all(sheet: &[u8], n: usize, places: &[u16; 65536], intake: &mut [u64])
-    requires { (40 * n ≤ length sheet.now) × AllNamed places.now (length intake.old) (wells n sheet.now) × Takes (sent_to places.now (wells n sheet.now)) intake.old }
-    ensures { Added (sent_to places.now (wells n sheet.now)) intake.old intake.new }
+fn send_all(records: &[u8], places: &[u16; 65536], intake: &mut [u64])
+    requires { AllNamed places.now (length intake.old) (wells_of records.now) × Takes (sent_to places.now (wells_of records.now)) intake.old }
+    ensures { Added (sent_to places.now (wells_of records.now)) intake.old intake.new }
 {
-    for i in 0..n {
-        let w = plan_record::read(sheet, i);
+    for i in 0..records.len() / RECORD {
+        let w = plan_record::read(records, i);
         if w.kind == PRODUCER {
             let links = &w.links[..usize::from(w.count)];
             send(u64::from(w.rate), links, places, intake);
@@ -52,19 +53,20 @@ fn spare_of(w: Well, intake: u64) -> i64
     if w.kind != INJECTOR {
         return 0;
     }
-    // Document 01 names the form: a negation and a difference of bounded products.
+    // Document 01 names the form: a negation and a difference of bounded products. By `as`: there is no `From` from u64 to i64 (nor from usize
+    // to u64, below).
     let excess = intake as i64 - (KILOGRAMS * u64::from(w.rate)) as i64;
     -excess
 }
 
 // The spares of a sound sheet's records, whose intakes are there already, and its part of the answer.
-fn settle(sheet: &[u8], n: usize, intake: &[u64], spare: &mut [i64]) -> Statement
-    requires { (40 * n ≤ length sheet.now) × (length spare.old ≡ n) × (sound (wells n sheet.now) ≡ true) × (intake.now ≡ intakes (rows (wells n sheet.now))) × (sum intake.now ≤ 102400000000) }
-    ensures { (result ≡ statement_of (wells n sheet.now ∷ [])) × (spare.new ≡ spares (rows (wells n sheet.now))) }
+fn settle(records: &[u8], intake: &[u64], spare: &mut [i64]) -> Statement
+    requires { (length spare.old ≡ count_of records.now) × (sound (wells_of records.now) ≡ true) × (intake.now ≡ intakes (rows (wells_of records.now))) × (sum intake.now ≤ 102400000000) }
+    ensures { (result ≡ statement_of (wells_of records.now ∷ [])) × (spare.new ≡ spares (rows (wells_of records.now))) }
 {
     // An index: after a zip with `iter_mut` the goals don't name the list that was written.
     for (i, s) in spare.iter_mut().enumerate() {
-        *s = spare_of(plan_record::read(sheet, i), intake[i]);
+        *s = spare_of(plan_record::read(records, i), intake[i]);
     }
     Statement {
         sound: 1,
@@ -76,35 +78,33 @@ fn settle(sheet: &[u8], n: usize, intake: &[u64], spare: &mut [i64]) -> Statemen
 
 // The figures of a sound sheet whose lists are zeros: first what its producers send, then what is spare.
 fn sound_sheet(
-    sheet: &[u8],
-    n: usize,
+    records: &[u8],
     places: &mut [u16; 65536],
     intake: &mut [u64],
     spare: &mut [i64],
 ) -> Statement
-    requires { (n ≤ 1024) × (40 * n ≤ length sheet.now) × (sound (wells n sheet.now) ≡ true) × (intake.old ≡ replicate n 0) × (length spare.old ≡ n) }
-    ensures { Stated (wells n sheet.now) result intake.new spare.new × (places.new ≡ placed sheet.now n places.old) }
+    requires { (count_of records.now ≤ 1024) × (sound (wells_of records.now) ≡ true) × (intake.old ≡ replicate (count_of records.now) 0) × (length spare.old ≡ count_of records.now) }
+    ensures { Stated (wells_of records.now) result intake.new spare.new × (places.new ≡ placed records.now (count_of records.now) places.old) }
 {
-    plan_places::put(sheet, n, places);
-    send_all(sheet, n, places, intake);
-    settle(sheet, n, intake, spare)
+    plan_places::put(records, records.len() / RECORD, places);
+    send_all(records, places, intake);
+    settle(records, intake, spare)
 }
 
-// The rows of a sheet, in lists as long as it has records, and its part of the answer.
+// The rows of a sheet's records, in lists as long as it has records, and its part of the answer.
 fn page(
-    sheet: &[u8],
-    n: usize,
+    records: &[u8],
     places: &mut [u16; 65536],
     intake: &mut [u64],
     spare: &mut [i64],
 ) -> Statement
-    requires { (n ≤ 1024) × (40 * n ≤ length sheet.now) × (length intake.old ≡ n) × (length spare.old ≡ n) }
-    ensures { Stated (wells n sheet.now) result intake.new spare.new × (places.new ≡ placed_if (sound (wells n sheet.now)) sheet.now n places.old) }
+    requires { (count_of records.now ≤ 1024) × (length intake.old ≡ count_of records.now) × (length spare.old ≡ count_of records.now) }
+    ensures { Stated (wells_of records.now) result intake.new spare.new × (places.new ≡ placed_if (sound (wells_of records.now)) records.now (count_of records.now) places.old) }
 {
     intake.fill(0);
     spare.fill(0);
-    if plan::says_sound(plan::check(sheet, n)) {
-        return sound_sheet(sheet, n, places, intake, spare);
+    if plan::says_sound(plan::check(records, records.len() / RECORD)) {
+        return sound_sheet(records, places, intake, spare);
     }
     Statement {
         faulted: 1,
@@ -149,7 +149,12 @@ pub fn statement(
     ensures { (record { answer = result; intake = intake.new; spare = spare.new } ≡ brine_outcome sheet.now (n ∷ []) intake.old spare.old) × (places.new ≡ table_after sheet.now n (length intake.old) (length spare.old) places.old) }
 {
     match judged(sheet.len(), n, intake.len(), spare.len()) {
-        Ok(()) => page(sheet, n, places, &mut intake[..n], &mut spare[..n]),
+        Ok(()) => page(
+            &sheet[..RECORD * n],
+            places,
+            &mut intake[..n],
+            &mut spare[..n],
+        ),
         Err(refusal) => refused(refusal),
     }
 }

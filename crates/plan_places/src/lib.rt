@@ -12,6 +12,7 @@ pub fn put(sheet: &[u8], n: usize, t: &mut [u16; 65536])
 {
     for i in 0..n {
         let w = plan_record::read(sheet, i);
+        // By `as`: there is no `From` from usize to u16, and the remainder fits.
         t[usize::from(w.number)] = (i % 65536) as u16;
     }
 }

@@ -10,13 +10,14 @@ use Rattle.plan_definition.specs.Well.{wells}
 use Rattle.plan_definition.specs.Rules.{used}
 use Rattle.plan_definition.proofs.Places.{well_at, left, left_all, left_step, left_none, wells_at}
 use Rattle.plan_record.proofs.Total.{well_read}
+use Rattle.plan.specs.Sets.{count_of}
 use Rattle.brine_sheet.specs.Sent.{Named, AllNamed, sent_to, Added, Takes}
 use Rattle.brine_sheet.proofs.Sends.{sent_producer, sent_other}
 use Rattle.brine_sheet.proofs.send_all.Goals as goal
 use Rattle.brine_sheet.proofs.send_all.Goals.{then-w-eq-PRODUCER, else-w-eq-PRODUCER}
 
 pub loop-i-init : goal.loop-i-init
-loop-i-init c = record { long = refl; whole = λ q. rw (left_all c.args.n c.args.sheet.now) }
+loop-i-init c = record { long = refl; whole = λ q. rw (left_all (count_of c.args.records.now) c.args.records.now) }
 
 -- what is there, what the well that is read sends and what those after it send are the whole
 step : (n : ℕ) (sheet t : List ℕ) (i q x m : ℕ) {w : Well} → w ≡ well_at i sheet → i < n → x + sent_to t (left i n sheet) q ≡ m
@@ -32,19 +33,19 @@ named n sheet t i m k {w = w} r h names e f = rw f (names w ((wells_at n sheet w
 pub shared_ref_as_front-links : goal.shared_ref_as_front-links
 shared_ref_as_front-links c =
     let e : c.read-w.result.kind ≡ 1 = omega (arith, c.if-w-eq-PRODUCER.true) in
-    rw c.from.ensures (named _ _ _ _ _ _ (c.read-w.ensures ∙ well_read _ _ (omega arith)) (omega arith) c.requires.1 e c.loop-i.invariant.long).0
+    rw c.from.ensures (named _ _ _ _ _ _ (c.read-w.ensures ∙ well_read _ _ (omega arith)) (omega arith) c.requires.0 e c.loop-i.invariant.long).0
 
 pub send-requires : goal.send-requires
 unfolding Takes used
 send-requires c =
     let l = c.loop-i in
     let e : c.read-w.result.kind ≡ 1 = omega (arith, c.if-w-eq-PRODUCER.true) in
-    let r = c.read-w.ensures ∙ well_read c.args.sheet.now l.i (omega arith) in
-    let ws = left (suc l.i) c.args.n c.args.sheet.now in
+    let r = c.read-w.ensures ∙ well_read c.args.records.now l.i (omega arith) in
+    let ws = left (suc l.i) (count_of c.args.records.now) c.args.records.now in
     rw (c.from.ensures, c.from-then-w-eq-PRODUCER.ensures) (
-      (named _ _ _ _ _ _ r (omega arith) c.requires.1 e l.invariant.long).1,
+      (named _ _ _ _ _ _ r (omega arith) c.requires.0 e l.invariant.long).1,
       λ q h. let whole = step _ _ _ _ q _ _ r (omega arith) (l.invariant.whole q) in
-          omega (arith, c.requires.2 q (rw (← l.invariant.long) h), whole, sent_producer c.args.places.now c.read-w.result ws q e),
+          omega (arith, c.requires.1 q (rw (← l.invariant.long) h), whole, sent_producer c.args.places.now c.read-w.result ws q e),
     )
 
 pub loop-i-preserved : goal.loop-i-preserved
@@ -53,7 +54,7 @@ loop-i-preserved c =
     let a = c.args in
     let l = c.loop-i in
     let w = c.read-w.result in
-    let ws = left (suc l.i) a.n a.sheet.now in
+    let ws = left (suc l.i) (count_of a.records.now) a.records.now in
     let whole = λ (q : ℕ). step _ _ _ _ q _ _ (c.read-w.ensures ∙ well_read _ _ (omega arith)) (omega arith) (l.invariant.whole q) in
     record {
       long = c.if-w-eq-PRODUCER.auto.intake ∙ l.invariant.long;
@@ -73,5 +74,5 @@ unfolding Added sent_to
 returns c =
     let l = c.loop-i in
     let a = c.args in
-    let e : l.i ≡ a.n = omega arith in
-    λ q. omega (arith, rw (left_none a.n a.sheet.now) at (rw e at (l.invariant.whole q)))
+    let e : l.i ≡ (count_of a.records.now) = omega arith in
+    λ q. omega (arith, rw (left_none (count_of a.records.now) a.records.now) at (rw e at (l.invariant.whole q)))

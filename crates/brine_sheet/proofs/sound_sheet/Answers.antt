@@ -13,6 +13,7 @@ use Rattle.plan_places.specs.Places.{placed}
 use Rattle.brine_definition.specs.Page.{rows}
 use Rattle.brine_definition.specs.Statement.{intakes}
 use Rattle.brine_definition.proofs.Conserved.{sheet-most}
+use Rattle.plan.specs.Sets.{count_of}
 use Rattle.brine_sheet.specs.Sent.{sent_to, Added}
 use Rattle.brine_sheet.proofs.Found.{Given, all_named}
 use Rattle.brine_sheet.proofs.Columns.{sends_fit, sent_intakes}
@@ -29,18 +30,18 @@ sent {n} g z x p e l put more = sent_intakes g x (l ∙ ap length e ∙ length-r
 
 pub send_all-requires : goal.send_all-requires
 send_all-requires c =
-    let g = given c.requires.0 c.requires.1 (λ i. omega (arith, c.shared_slice_known-1.given i)) c.put.ensures.1 c.requires.2 in
-    let long : length c.args.intake.now ≡ c.args.n = ap length c.requires.3 ∙ length-replicate c.args.n _ in
-    (c.requires.1, rw (c.put.ensures.0, long) (all_named g), rw (c.put.ensures.0, c.requires.3) (sends_fit g))
+    let g = given c.requires.0 (omega arith) (λ i. omega (arith, c.shared_slice_known-1.given i)) c.put.ensures.1 c.requires.1 in
+    let long : length c.args.intake.now ≡ (count_of c.args.records.now) = ap length c.requires.2 ∙ length-replicate (count_of c.args.records.now) _ in
+    (rw (c.put.ensures.0, long) (all_named g), rw (c.put.ensures.0, c.requires.2) (sends_fit g))
 
 pub settle-requires : goal.settle-requires
 settle-requires c =
     let a = c.args in
-    let g = given c.requires.0 c.requires.1 (λ i. omega (arith, c.shared_slice_known-1.given i)) c.put.ensures.1 c.requires.2 in
-    let intake = sent g _ _ _ c.requires.3 c.send_all.auto.intake c.put.ensures.0 c.send_all.ensures in
-    (c.requires.1, c.requires.4, c.requires.2, intake, rw intake (omega (arith, sheet-most a.n a.sheet.now, c.requires.0)))
+    let g = given c.requires.0 (omega arith) (λ i. omega (arith, c.shared_slice_known-1.given i)) c.put.ensures.1 c.requires.1 in
+    let intake = sent g _ _ _ c.requires.2 c.send_all.auto.intake c.put.ensures.0 c.send_all.ensures in
+    (c.requires.3, c.requires.1, intake, rw intake (omega (arith, sheet-most (count_of a.records.now) a.records.now, c.requires.0)))
 
 pub returns : goal.returns
 returns c =
-    let g = given c.requires.0 c.requires.1 (λ i. omega (arith, c.shared_slice_known-1.given i)) c.put.ensures.1 c.requires.2 in
-    ((c.settle.ensures.0, sent g _ _ _ c.requires.3 c.send_all.auto.intake c.put.ensures.0 c.send_all.ensures, c.settle.ensures.1), c.put.ensures.0)
+    let g = given c.requires.0 (omega arith) (λ i. omega (arith, c.shared_slice_known-1.given i)) c.put.ensures.1 c.requires.1 in
+    ((c.settle.ensures.0, sent g _ _ _ c.requires.2 c.send_all.auto.intake c.put.ensures.0 c.send_all.ensures, c.settle.ensures.1), c.put.ensures.0)
