@@ -71,6 +71,7 @@ fn touched(w: Well, kind: u8, taken: &[u64; 1024]) -> bool
 }
 
 // The injectors that marked wells link put into the set. A byte stands for each record of the sheet, here and below.
+// No struct has Searched as a ghost field: each contract would still have to say that its records are as many as the bytes.
 fn take_linked(records: &[u8], reached: &[u8], taken: &mut [u64; 1024])
     requires { Searched records.now (length reached.now) }
     ensures { has taken.new ≡ plus_linked reached.now (wells (length reached.now) records.now) (has taken.old) }
