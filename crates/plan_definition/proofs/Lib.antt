@@ -5,7 +5,6 @@ pub mod Kept
 pub mod Struck
 pub mod Ranked
 pub mod Links
-pub mod Filled
 pub mod Given
 pub mod Places
 pub mod Listed
