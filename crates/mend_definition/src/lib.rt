@@ -24,6 +24,7 @@ pub struct MendAnswer {
     pub rounds: u64,
 }
 
+// First is cast: Rust has no From of a usize for u64.
 impl From<Result<Mended, Refusal>> for MendAnswer {
     ghost from_gives = { λ r a. a ≡ mend_answer (saying_of r) };
 

@@ -23,7 +23,8 @@ pub fn build(
 ) -> Result<Saved, Turned>
     ensures { record { answer = answer_of n result; sheet = sheet.now; marks = marks.new; out = out.new } ≡ build_outcome code sheet.now n marks.old out.old }
 {
-    sheet_judge::build(code, sheet.len(), n, marks.len(), out.len())?;
+    let l = sheet_judge::lengths(code, sheet, n, marks, out);
+    sheet_judge::build(l)?;
     sheet_marks::write(marks, 0, rounds::start(codes::width(code)));
     let rounds = sheet_work::work_on(code, sheet, n, marks, 0, 0, out);
     Ok(Saved { count: n, rounds })
@@ -66,16 +67,8 @@ pub fn change(
 ) -> Result<Saved, Turned>
     ensures { record { answer = answer_of n result; sheet = sheet.new; marks = marks.new; out = out.new } ≡ change_outcome code sheet.old n marks.old place «record».now claim.now out.old }
 {
-    let judged = sheet_judge::change(
-        code,
-        sheet.len(),
-        n,
-        marks.len(),
-        place,
-        record.len(),
-        claim.len(),
-        out.len(),
-    );
+    let l = sheet_judge::lengths(code, sheet, n, marks, out);
+    let judged = sheet_judge::change(l, place, record.len(), claim.len());
     save(judged, code, sheet, n, marks, place, record, n, claim, out)
 }
 
@@ -91,15 +84,8 @@ pub fn append(
 ) -> Result<Saved, Turned>
     ensures { record { answer = answer_of n result; sheet = sheet.new; marks = marks.new; out = out.new } ≡ append_outcome code sheet.old n marks.old «record».now claim.now out.old }
 {
-    let judged = sheet_judge::append(
-        code,
-        sheet.len(),
-        n,
-        marks.len(),
-        record.len(),
-        claim.len(),
-        out.len(),
-    );
+    let l = sheet_judge::lengths(code, sheet, n, marks, out);
+    let judged = sheet_judge::append(l, record.len(), claim.len());
     // a full sheet is refused, so a count that can't rise is never used
     let more = n.saturating_add(1);
     save(judged, code, sheet, n, marks, n, record, more, claim, out)
@@ -116,7 +102,8 @@ pub fn drop(
 ) -> Result<Saved, Turned>
     ensures { record { answer = answer_of n result; sheet = sheet.new; marks = marks.new; out = out.new } ≡ drop_outcome code sheet.old n marks.old claim.now out.old }
 {
-    let judged = sheet_judge::drop(code, sheet.len(), n, marks.len(), claim.len(), out.len());
+    let l = sheet_judge::lengths(code, sheet, n, marks, out);
+    let judged = sheet_judge::drop(l, claim.len());
     // an empty sheet is refused, so a count that can't fall is never used
     let last = n.saturating_sub(1);
     save(

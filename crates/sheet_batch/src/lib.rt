@@ -11,7 +11,7 @@ ghost use Rattle.sheet_definition.specs.SheetCalls.{written_at, batch_outcome};
 ghost use Rattle.sheet_work.specs.Answered.{answer_of};
 
 use refusals::Refusal;
-use sheet_definition::RECORD;
+use sheet_definition::{Lengths, RECORD};
 use sheet_work::{Saved, Turned};
 
 // The most changes of one save.
@@ -32,22 +32,13 @@ fn have(n: usize, places: &[usize]) -> Result<(), Refusal>
 }
 
 // The first refusal, whether a claim is stale left aside. Places that are too many or don't rise aren't looked through again.
-fn judge(
-    code: usize,
-    sheet: usize,
-    n: usize,
-    marks: usize,
-    places: &[usize],
-    records: usize,
-    claim: usize,
-    out: usize,
-) -> Result<(), Refusal>
-    ensures { number_of result ≡ first_of (batch_refusals (record { code = code; n = n; sheet_length = sheet; marks_length = marks; out_length = out }) places.now «records» claim) }
+fn judge(l: Lengths, places: &[usize], records: usize, claim: usize) -> Result<(), Refusal>
+    ensures { number_of result ≡ first_of (batch_refusals l places.now «records» claim) }
 {
-    sheet_judge::build(code, sheet, n, marks, out)?;
+    sheet_judge::build(l)?;
     rise(places)?;
-    have(n, places)?;
-    sheet_judge::sized(code, places.len(), records, claim)
+    have(l.n, places)?;
+    sheet_judge::sized(l.code, places.len(), records, claim)
 }
 
 // The new records, each written at its place.
@@ -73,16 +64,8 @@ pub fn batch(
 ) -> Result<Saved, Turned>
     ensures { record { answer = answer_of n result; sheet = sheet.new; marks = marks.new; out = out.new } ≡ batch_outcome code sheet.old n marks.old places.now «records».now claim.now out.old }
 {
-    let judged = judge(
-        code,
-        sheet.len(),
-        n,
-        marks.len(),
-        places,
-        records.len(),
-        claim.len(),
-        out.len(),
-    );
+    let l = sheet_judge::lengths(code, sheet, n, marks, out);
+    let judged = judge(l, places, records.len(), claim.len());
     let before = sheet_work::admit(judged, code, sheet, n, marks, claim)?;
     let Some(first) = places.first() else {
         // the claim is the digest held, as the check has found

@@ -63,15 +63,8 @@ pub fn close_up(
 ) -> Result<Saved, Turned>
     ensures { record { answer = answer_of n result; sheet = sheet.new; marks = marks.new; places = places.new; out = out.new } ≡ close_up_outcome code sheet.old n marks.old claim.now places.old out.old }
 {
-    let judged = sheet_judge::close_up(
-        code,
-        sheet.len(),
-        n,
-        marks.len(),
-        places.len(),
-        claim.len(),
-        out.len(),
-    );
+    let l = sheet_judge::lengths(code, sheet, n, marks, out);
+    let judged = sheet_judge::close_up(l, places.len(), claim.len());
     let before = sheet_work::admit(judged, code, sheet, n, marks, claim)?;
     let first = first_struck(sheet, n).unwrap_or(n);
     let count = gather(sheet, n, places);

@@ -1,6 +1,6 @@
 -- What a save takes away is zeroed: zeros that were written stand there, and the marks past a sheet's new last one are zero.
 -- Assumes nothing.
-use mathlib.Core.Path.{◌≡◌, refl, sym, ap, ◌∙◌}
+use mathlib.Core.Path.{◌≡◌, sym, ap, ◌∙◌}
 use mathlib.Core.List.{List, ◌++◌}
 use Prim.Native.Nat.{ℕ, ◌+◌, ◌-◌, ◌*◌, ◌<◌, ◌≤◌}
 use native.Mathlib.Omega.{arith}
@@ -29,12 +29,6 @@ zeroed i m j c l a b h =
     (sym (take-take c d (drop j (overwrite_at j v (overwrite_at i p l))) (omega arith))
     ∙ ap (take c) (read-written j d v (overwrite_at i p l) (length-replicate {A = ℕ} d 0) (omega (arith, length-overwrite_at i p l (omega arith))))
     ∙ rw (parted c (d - c) d (omega arith)) (take_at (replicate c 0) (replicate (d - c) 0) c (length-replicate {A = ℕ} c 0)))
-
--- c more behind m that were written from place i on
-pub zeros_more : (i m c : ℕ) (l : List ℕ) → i ≤ length l
-    → overwrite_at (i + m) (replicate c 0) (overwrite_at i (replicate m 0) l) ≡ overwrite_at i (replicate (m + c) 0) l
-zeros_more i m c l h =
-    overwrite_at-more i (i + m) (replicate m 0) (replicate c 0) l h (rw (length-replicate {A = ℕ} m 0)) ∙ rw (parted m c (m + c) refl)
 
 -- marks up to any before the new last stay, those past the new last are zero, and the words behind the old last stay
 pub past_last_lem : (n count m : ℕ) (marks : List ℕ) → m ≤ q count → count ≤ n → mark_words * (q n + 1) ≤ length marks

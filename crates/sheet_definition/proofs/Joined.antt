@@ -2,7 +2,7 @@
 -- Assumes nothing.
 use mathlib.Core.Path.{◌≡◌, refl, sym, ap, ◌∙◌}
 use mathlib.Core.List.{List, [], ◌∷◌, ◌++◌, append_assoc}
-use Prim.Native.Nat.{ℕ, zero, suc, ◌+◌, ◌-◌, ◌*◌, ◌<◌, ◌≤◌}
+use Prim.Native.Nat.{ℕ, zero, suc, ◌+◌, ◌*◌, ◌<◌, ◌≤◌}
 use native.Mathlib.Nat.{add_assoc}
 use native.Mathlib.Omega.{arith}
 use lib.ListN.{length, take, drop, set, length-append, length-set, length-drop, take-append-drop}
@@ -85,15 +85,7 @@ joined-cut (suc n) l =
     let e : record_bytes * suc n ≡ record_bytes + record_bytes * n = omega arith in
     rw (joined-cut n (drop record_bytes l), e, take-add record_bytes (record_bytes * n) l)
 
--- from place i on: its record, and those after it; and the first records with one more
-pub cut-from : (n i : ℕ) (l : List ℕ) → i < n
-    → cut (n - i) (drop (record_bytes * i) l) ≡ take record_bytes (drop (record_bytes * i) l) ∷ cut (n - suc i) (drop (record_bytes * suc i) l)
-unfolding cut
-cut-from n i l h =
-    let e : n - i ≡ suc (n - suc i) = omega arith in
-    let j : record_bytes * suc i ≡ record_bytes * i + record_bytes = omega arith in
-    rw (e, j, drop-drop record_bytes (record_bytes * i) l)
-
+-- the first records with one more
 pub cut_more : (i : ℕ) (l : List ℕ) → cut (suc i) l ≡ cut i l ++ take record_bytes (drop (record_bytes * i) l) ∷ []
 unfolding cut
 cut_more zero l = refl

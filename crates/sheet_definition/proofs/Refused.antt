@@ -11,7 +11,8 @@ use borrow.Author.Tests.{ltb-false, leb-false, eqb-true, eqb-false, not-false}
 use Rattle.definition.specs.Luffa.{bytes_at}
 use Rattle.definition.specs.Refusal.{Refusal, WIDTH, OUT, SHEET, MARKS, pick, first_of, numbers_of, condition_of, known, rising, width_refusal, out_refusal}
 use Rattle.sheet_definition.specs.Sheet.{World, most, record_bytes, mark_words, q}
-use Rattle.sheet_definition.specs.Refusals.{Lengths, lengths_of, sheet_refusal, marks_refusal, place_refusal, full_refusal, size_refusal, claim_refusal, places_refusal, set_refusal, list_refusal, build_refusals, change_refusals, append_refusals, drop_refusals, batch_refusals, close_up_refusals, most_changes}
+use Rattle.sheet_definition.specs.declared.Lengths.{Lengths}
+use Rattle.sheet_definition.specs.Refusals.{lengths_of, sheet_refusal, marks_refusal, place_refusal, full_refusal, size_refusal, claim_refusal, places_refusal, set_refusal, list_refusal, build_refusals, change_refusals, append_refusals, drop_refusals, batch_refusals, close_up_refusals, most_changes}
 use Rattle.sheet_definition.specs.SheetCalls.{refusals_of}
 use Rattle.definition.proofs.Conditions.{either_false}
 use Rattle.definition.proofs.Refusals.{Numbered, fails}

@@ -4,15 +4,9 @@ use Rattle.std.specs.Prelude.{ℕ, ◌+◌, ◌*◌, Bool, false, not, ◌||◌,
 use Rattle.definition.specs.Luffa.{bytes_at}
 use Rattle.definition.specs.Refusal.{Refusal, SHEET, MARKS, PLACE, FULL, SIZE, CLAIM, SET, PLACES, rising, width_refusal, out_refusal}
 use Rattle.sheet_definition.specs.Sheet.{World, most, record_bytes, mark_words, q}
+use Rattle.sheet_definition.specs.declared.Lengths.{Lengths}
 
--- what every sheet call is judged by: code, count, and how long the buffers are
-pub record Lengths : Type 0 where
-  pub code : ℕ
-  pub n : ℕ
-  pub sheet_length : ℕ
-  pub marks_length : ℕ
-  pub out_length : ℕ
-
+-- what a call over a world is judged by
 abbrev pub lengths_of : World → (out : List ℕ) → Lengths
 lengths_of w out =
     record { code = w.code; n = w.n; sheet_length = length w.sheet; marks_length = length w.marks; out_length = length out }

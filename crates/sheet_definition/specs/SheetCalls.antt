@@ -6,7 +6,8 @@ use Rattle.definition.specs.Buffer.{overwrite_at, overwrite, joined}
 use Rattle.definition.specs.Refusal.{Refusal, STALE, pick, first_of, when_done}
 use Rattle.sheet_definition.specs.Sheet.{World, record_bytes, mark_words, q, cut}
 use Rattle.sheet_definition.specs.Struck.{standing, old_places, first_struck}
-use Rattle.sheet_definition.specs.Refusals.{Lengths, lengths_of, build_refusals, change_refusals, append_refusals, drop_refusals, batch_refusals, close_up_refusals}
+use Rattle.sheet_definition.specs.declared.Lengths.{Lengths}
+use Rattle.sheet_definition.specs.Refusals.{lengths_of, build_refusals, change_refusals, append_refusals, drop_refusals, batch_refusals, close_up_refusals}
 use Rattle.sheet_definition.specs.Marks.{mark_of, worked}
 use Rattle.sheet_definition.specs.Save.{SheetOutcome, refused_with, done_with, Edit, Save, save_outcome}
 use Rattle.sheet_definition.specs.declared.Answer.{Answer}

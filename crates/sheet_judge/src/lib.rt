@@ -6,10 +6,10 @@ ghost use Rattle.std.specs.Prelude.{◌≡◌, [], ◌∷◌};
 ghost use Rattle.definition.specs.Luffa.{bytes_at};
 ghost use Rattle.definition.specs.Refusal.{first_of};
 ghost use Rattle.refusals.specs.Number.{number_of};
-ghost use Rattle.sheet_definition.specs.Refusals.{sheet_refusal, marks_refusal, place_refusal, full_refusal, size_refusal, claim_refusal, list_refusal, build_refusals, change_refusals, append_refusals, drop_refusals, close_up_refusals};
+ghost use Rattle.sheet_definition.specs.Refusals.{lengths_of, sheet_refusal, marks_refusal, place_refusal, full_refusal, size_refusal, claim_refusal, list_refusal, build_refusals, change_refusals, append_refusals, drop_refusals, close_up_refusals};
 
 use refusals::Refusal;
-use sheet_definition::{MARK, MOST, RECORD};
+use sheet_definition::{Lengths, MARK, MOST, RECORD};
 
 // 5: whether the buffer holds n records, at most 1,024. Lengths are divided and n isn't multiplied, so that nothing wraps.
 pub fn has_records(n: usize, sheet: usize) -> Result<(), Refusal>
@@ -60,14 +60,27 @@ fn list_room(n: usize, places: usize) -> Result<(), Refusal>
     Refusal::Places.when(places < n)
 }
 
-// The four refusals that every sheet call begins with.
-pub fn build(code: usize, sheet: usize, n: usize, marks: usize, out: usize) -> Result<(), Refusal>
-    ensures { number_of result ≡ first_of (build_refusals (record { code = code; n = n; sheet_length = sheet; marks_length = marks; out_length = out })) }
+// What a call is judged by, of what it was lent.
+pub fn lengths(code: usize, sheet: &[u8], n: usize, marks: &[u32], out: &[u8]) -> Lengths
+    ensures { result ≡ lengths_of (record { code = code; n = n; sheet = sheet.now; marks = marks.now }) out.now }
 {
-    refusals::known_code(code)?;
-    refusals::room(codes::words(code), out)?;
-    has_records(n, sheet)?;
-    has_marks(n, marks)
+    Lengths {
+        code,
+        n,
+        sheet_length: sheet.len(),
+        marks_length: marks.len(),
+        out_length: out.len(),
+    }
+}
+
+// The four refusals that every sheet call begins with.
+pub fn build(l: Lengths) -> Result<(), Refusal>
+    ensures { number_of result ≡ first_of (build_refusals l) }
+{
+    refusals::known_code(l.code)?;
+    refusals::room(codes::words(l.code), l.out_length)?;
+    has_records(l.n, l.sheet_length)?;
+    has_marks(l.n, l.marks_length)
 }
 
 // The refusals of a save's new records, so many, and of its claim.
@@ -78,66 +91,36 @@ pub fn sized(code: usize, count: usize, records: usize, claim: usize) -> Result<
     claim_size(code, claim)
 }
 
-pub fn change(
-    code: usize,
-    sheet: usize,
-    n: usize,
-    marks: usize,
-    place: usize,
-    record: usize,
-    claim: usize,
-    out: usize,
-) -> Result<(), Refusal>
-    ensures { number_of result ≡ first_of (change_refusals (record { code = code; n = n; sheet_length = sheet; marks_length = marks; out_length = out }) place «record» claim) }
+// The refusals of each kind of save. They begin and end alike, and what stands between takes other arguments: over an enum of kinds each would
+// have an arm of these same lines.
+pub fn change(l: Lengths, place: usize, record: usize, claim: usize) -> Result<(), Refusal>
+    ensures { number_of result ≡ first_of (change_refusals l place «record» claim) }
 {
-    build(code, sheet, n, marks, out)?;
-    has_place(n, place)?;
-    sized(code, 1, record, claim)
+    build(l)?;
+    has_place(l.n, place)?;
+    sized(l.code, 1, record, claim)
 }
 
-pub fn append(
-    code: usize,
-    sheet: usize,
-    n: usize,
-    marks: usize,
-    record: usize,
-    claim: usize,
-    out: usize,
-) -> Result<(), Refusal>
-    ensures { number_of result ≡ first_of (append_refusals (record { code = code; n = n; sheet_length = sheet; marks_length = marks; out_length = out }) «record» claim) }
+pub fn append(l: Lengths, record: usize, claim: usize) -> Result<(), Refusal>
+    ensures { number_of result ≡ first_of (append_refusals l «record» claim) }
 {
-    build(code, sheet, n, marks, out)?;
-    one_more(n, sheet, marks)?;
-    sized(code, 1, record, claim)
+    build(l)?;
+    one_more(l.n, l.sheet_length, l.marks_length)?;
+    sized(l.code, 1, record, claim)
 }
 
-pub fn drop(
-    code: usize,
-    sheet: usize,
-    n: usize,
-    marks: usize,
-    claim: usize,
-    out: usize,
-) -> Result<(), Refusal>
-    ensures { number_of result ≡ first_of (drop_refusals (record { code = code; n = n; sheet_length = sheet; marks_length = marks; out_length = out }) claim) }
+pub fn drop(l: Lengths, claim: usize) -> Result<(), Refusal>
+    ensures { number_of result ≡ first_of (drop_refusals l claim) }
 {
-    build(code, sheet, n, marks, out)?;
-    has_place(n, 0)?;
-    claim_size(code, claim)
+    build(l)?;
+    has_place(l.n, 0)?;
+    claim_size(l.code, claim)
 }
 
-pub fn close_up(
-    code: usize,
-    sheet: usize,
-    n: usize,
-    marks: usize,
-    places: usize,
-    claim: usize,
-    out: usize,
-) -> Result<(), Refusal>
-    ensures { number_of result ≡ first_of (close_up_refusals (record { code = code; n = n; sheet_length = sheet; marks_length = marks; out_length = out }) places claim) }
+pub fn close_up(l: Lengths, places: usize, claim: usize) -> Result<(), Refusal>
+    ensures { number_of result ≡ first_of (close_up_refusals l places claim) }
 {
-    build(code, sheet, n, marks, out)?;
-    list_room(n, places)?;
-    claim_size(code, claim)
+    build(l)?;
+    list_room(l.n, places)?;
+    claim_size(l.code, claim)
 }

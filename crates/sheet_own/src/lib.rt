@@ -86,7 +86,6 @@ fn compare(code: usize, held: &[u32], own: &[u32], last: usize) -> Where
 }
 
 // Why a stale save is turned away: 11 where a group is named, 16 where all shared marks agree.
-// Found isn't an Option: Same says that all shared marks agree, where None would say that nothing was found.
 fn stale(found: Found) -> Refusal
     ensures { number result ≡ stale_as found }
 {
@@ -122,7 +121,7 @@ fn locate(
 }
 
 // A record replaced, by a planner who brings his own marks. Each kind of save is lent other things: over an enum of kinds each would have two
-// arms, one that judges and one that saves.
+// arms, one that judges and one that saves, and a closure that saves would be handed sheet, marks and out, which it can't hold beside `locate`.
 pub fn change(
     code: usize,
     sheet: &mut [u8],
@@ -137,16 +136,8 @@ pub fn change(
 ) -> Result<Saved, Strayed>
     ensures { record { answer = located_of n result; sheet = sheet.new; marks = marks.new; out = out.new } ≡ own_outcome (record { code = code; n = n; sheet = sheet.old; marks = marks.old }) (Change place «record».now) claim.now owned own.now out.old }
 {
-    sheet_judge::change(
-        code,
-        sheet.len(),
-        n,
-        marks.len(),
-        place,
-        record.len(),
-        claim.len(),
-        out.len(),
-    )?;
+    let l = sheet_judge::lengths(code, sheet, n, marks, out);
+    sheet_judge::change(l, place, record.len(), claim.len())?;
     has_own(code, owned, own)?;
     let saved = sheet::change(code, sheet, n, marks, place, record, claim, out);
     locate(code, n, marks, owned, own, saved)
@@ -166,15 +157,8 @@ pub fn append(
 ) -> Result<Saved, Strayed>
     ensures { record { answer = located_of n result; sheet = sheet.new; marks = marks.new; out = out.new } ≡ own_outcome (record { code = code; n = n; sheet = sheet.old; marks = marks.old }) (Append «record».now) claim.now owned own.now out.old }
 {
-    sheet_judge::append(
-        code,
-        sheet.len(),
-        n,
-        marks.len(),
-        record.len(),
-        claim.len(),
-        out.len(),
-    )?;
+    let l = sheet_judge::lengths(code, sheet, n, marks, out);
+    sheet_judge::append(l, record.len(), claim.len())?;
     has_own(code, owned, own)?;
     let saved = sheet::append(code, sheet, n, marks, record, claim, out);
     locate(code, n, marks, owned, own, saved)
@@ -193,13 +177,15 @@ pub fn drop(
 ) -> Result<Saved, Strayed>
     ensures { record { answer = located_of n result; sheet = sheet.new; marks = marks.new; out = out.new } ≡ own_outcome (record { code = code; n = n; sheet = sheet.old; marks = marks.old }) Drop claim.now owned own.now out.old }
 {
-    sheet_judge::drop(code, sheet.len(), n, marks.len(), claim.len(), out.len())?;
+    let l = sheet_judge::lengths(code, sheet, n, marks, out);
+    sheet_judge::drop(l, claim.len())?;
     has_own(code, owned, own)?;
     let saved = sheet::drop(code, sheet, n, marks, claim, out);
     locate(code, n, marks, owned, own, saved)
 }
 
 // The answer for C of a save of n records: which case was found, and the group, 0 where none is named.
+// Counts and groups are cast, here and in `compare`: Rust has no From of a usize for u64.
 pub fn answer(n: usize, saved: Result<Saved, Strayed>) -> LocatedAnswer
     ensures { result ≡ located_answer (located_of n saved) }
 {
@@ -218,7 +204,7 @@ pub fn answer(n: usize, saved: Result<Saved, Strayed>) -> LocatedAnswer
                 Found::Group(g) => (1, g as u64),
             };
             LocatedAnswer {
-                number: u32::from(strayed.refusal) as u64,
+                number: u64::from(u32::from(strayed.refusal)),
                 count: n as u64,
                 rounds: strayed.rounds,
                 kind,

@@ -39,6 +39,7 @@ impl From<Refusal> for Turned {
 }
 
 // What C is answered of a call over n records: where it is turned away the count is the one that it was handed.
+// Counts are cast: Rust has no From of a usize for u64.
 pub fn answer(n: usize, saved: Result<Saved, Turned>) -> Answer
     ensures { result ≡ answer_of n saved }
 {
@@ -49,7 +50,7 @@ pub fn answer(n: usize, saved: Result<Saved, Turned>) -> Answer
             rounds: s.rounds,
         },
         Err(t) => Answer {
-            number: u32::from(t.refusal) as u64,
+            number: u64::from(u32::from(t.refusal)),
             count: n as u64,
             rounds: t.rounds,
         },

@@ -29,7 +29,7 @@ unfolding save_of refusals_of
 save-requires c =
     let a = c.args in
     let w : World = record { code = a.code; n = a.n; sheet = a.sheet.now; marks = a.marks.now } in
-    let e = c.append-judged.ensures in
+    let e = rw c.lengths-l.ensures at c.append-judged.ensures in
     judged w (Append a.«record».now) a.claim.now a.out.now _ _ _ e (one w a.«record».now a.claim.now a.out.now c.saturating_add-more.ensures e)
 
 pub returns : goal.returns
@@ -37,5 +37,5 @@ unfolding save_of refusals_of
 returns c =
     let a = c.args in
     let w : World = record { code = a.code; n = a.n; sheet = a.sheet.now; marks = a.marks.now } in
-    let e = c.append-judged.ensures in
+    let e = rw c.lengths-l.ensures at c.append-judged.ensures in
     saved w (Append a.«record».now) a.claim.now a.out.now _ _ _ e (one w a.«record».now a.claim.now a.out.now c.saturating_add-more.ensures e) c.save.ensures

@@ -27,7 +27,7 @@ unfolding save_of refusals_of
 save-requires c =
     let a = c.args in
     let w : World = record { code = a.code; n = a.n; sheet = a.sheet.now; marks = a.marks.now } in
-    let e = c.change-judged.ensures in
+    let e = rw c.lengths-l.ensures at c.change-judged.ensures in
     judged w (Change a.place a.«record».now) a.claim.now a.out.now _ _ _ e (one w a.place a.«record».now a.claim.now a.out.now e)
 
 pub returns : goal.returns
@@ -35,5 +35,5 @@ unfolding save_of refusals_of
 returns c =
     let a = c.args in
     let w : World = record { code = a.code; n = a.n; sheet = a.sheet.now; marks = a.marks.now } in
-    let e = c.change-judged.ensures in
+    let e = rw c.lengths-l.ensures at c.change-judged.ensures in
     saved w (Change a.place a.«record».now) a.claim.now a.out.now _ _ _ e (one w a.place a.«record».now a.claim.now a.out.now e) c.save.ensures

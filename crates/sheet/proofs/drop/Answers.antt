@@ -28,7 +28,7 @@ unfolding save_of refusals_of
 save-requires c =
     let a = c.args in
     let w : World = record { code = a.code; n = a.n; sheet = a.sheet.now; marks = a.marks.now } in
-    let e = c.drop-judged.ensures in
+    let e = rw c.lengths-l.ensures at c.drop-judged.ensures in
     judged w Drop a.claim.now a.out.now _ _ _ e (one w a.claim.now a.out.now c.saturating_sub-last.ensures e)
 
 pub returns : goal.returns
@@ -36,5 +36,5 @@ unfolding save_of refusals_of
 returns c =
     let a = c.args in
     let w : World = record { code = a.code; n = a.n; sheet = a.sheet.now; marks = a.marks.now } in
-    let e = c.drop-judged.ensures in
+    let e = rw c.lengths-l.ensures at c.drop-judged.ensures in
     saved w Drop a.claim.now a.out.now _ _ _ e (one w a.claim.now a.out.now c.saturating_sub-last.ensures e) c.save.ensures

@@ -11,6 +11,7 @@ use Rattle.definition.specs.Refusal.{PLACES, first_of}
 use Rattle.definition.proofs.Refusals.{fails}
 use Rattle.sheet_definition.specs.Sheet.{World, cut, q}
 use Rattle.sheet_definition.specs.Struck.{all_zero, standing, first_struck}
+use Rattle.sheet_definition.specs.declared.Lengths.{Lengths}
 use Rattle.sheet_definition.specs.Refusals.{lengths_of, close_up_refusals}
 use Rattle.sheet_definition.specs.SheetCalls.{Call, lent, refusals_of, save_of, call, closing_up}
 use Rattle.sheet_definition.proofs.Joined.{length_cut}
@@ -29,14 +30,15 @@ use Rattle.sheet_close_up.proofs.Together.{list-stays, together}
 use Rattle.sheet_close_up.proofs.close_up.Goals as goal
 
 -- of a call judged by the number that its lengths come to
-module _ (w : World) (places claim out : List ℕ) {number : ℕ} (e : number ≡ first_of (close_up_refusals (lengths_of w out) (length places) (length claim))) where
+module _ (w : World) (places claim out : List ℕ) {number : ℕ} {l : Lengths} (f : l ≡ lengths_of w out)
+    (e : number ≡ first_of (close_up_refusals l (length places) (length claim))) where
   abbrev asked : Call
   asked = closing_up places claim out
 
   -- the number is that of the call's refusals
   judged : number ≡ first_of (save_of w asked).refusals
   unfolding save_of refusals_of
-  judged = e
+  judged = rw f at e
 
   -- admitted, the call goes on
   goes : {begun : Admitted} → begun ≡ admission number w claim → begun.number ≡ 0 → Onward w asked begun.rounds
@@ -56,7 +58,7 @@ told : (n : ℕ) (sheet : List ℕ) {first : ℕ} {o : Option ℕ} → o ≡ pos
 told n sheet p f = f ∙ rw p (first_told (cut n sheet) n (sym (length_cut n sheet)))
 
 pub admit-requires : goal.admit-requires
-admit-requires c = asked_of _ _ (judged _ _ _ _ c.close_up-judged.ensures)
+admit-requires c = asked_of _ _ (judged _ _ _ _ c.lengths-l.ensures c.close_up-judged.ensures)
 
 pub returns-in_err-before : goal.returns-in_err-before
 unfolding call save_of
@@ -64,13 +66,13 @@ returns-in_err-before c =
     let d = c.in_err-before.ensures in
     let p = err_from_is_err_and c.from_residual.result c.from_residual.ensures.1 in
     rw (p.1, p.2, d.marks_unchanged)
-    (list-stays _ _ _ _ _ _ (not_zero _) (turned_away_lem _ _ refl (judged _ _ _ _ c.close_up-judged.ensures) d.value (not_zero _)))
+    (list-stays _ _ _ _ _ _ (not_zero _) (turned_away_lem _ _ refl (judged _ _ _ _ c.lengths-l.ensures c.close_up-judged.ensures) d.value (not_zero _)))
 
 pub work_on-rounds-requires : goal.work_on-rounds-requires
 unfolding q
 work_on-rounds-requires c =
     let a = c.args in
-    let g = goes _ _ _ _ c.close_up-judged.ensures c.in_ok-before.ensures.value refl in
+    let g = goes _ _ _ _ c.lengths-l.ensures c.close_up-judged.ensures c.in_ok-before.ensures.value refl in
     let f = g.room in
     let l = fewer_left _ _ c.gather-count.ensures.value in (
       omega (arith, l, f.count),
@@ -85,7 +87,7 @@ pub returns : goal.returns
 unfolding q
 returns c =
     let a = c.args in
-    let g = goes _ _ _ _ c.close_up-judged.ensures c.in_ok-before.ensures.value refl in
+    let g = goes _ _ _ _ c.lengths-l.ensures c.close_up-judged.ensures c.in_ok-before.ensures.value refl in
     let o = c.work_on-rounds.ensures in
     let n = c.gather-count.ensures in
     together _ _ _ _ _ _ _ _ _ _ _ _ _ _ g.checked_so_far (told _ _ c.first_struck.ensures c.unwrap_or-first.ensures)
@@ -95,14 +97,14 @@ returns c =
 
 pub first_struck-requires : goal.first_struck-requires
 first_struck-requires c =
-    (goes _ _ _ _ c.close_up-judged.ensures c.in_ok-before.ensures.value refl).room.sheet-room
+    (goes _ _ _ _ c.lengths-l.ensures c.close_up-judged.ensures c.in_ok-before.ensures.value refl).room.sheet-room
 
 pub gather-count-requires : goal.gather-count-requires
 gather-count-requires c =
     let d = c.in_ok-before.ensures.value in
-    let f = (goes _ _ _ _ c.close_up-judged.ensures d refl).room in (f.count, f.sheet-room, listed _ _ _ _ c.close_up-judged.ensures d refl)
+    let f = (goes _ _ _ _ c.lengths-l.ensures c.close_up-judged.ensures d refl).room in (f.count, f.sheet-room, listed _ _ _ _ c.lengths-l.ensures c.close_up-judged.ensures d refl)
 
 pub zero-requires : goal.zero-requires
 zero-requires c =
-    let f = (goes _ _ _ _ c.close_up-judged.ensures c.in_ok-before.ensures.value refl).room in
+    let f = (goes _ _ _ _ c.lengths-l.ensures c.close_up-judged.ensures c.in_ok-before.ensures.value refl).room in
     (fewer_left _ _ c.gather-count.ensures.value, omega (arith, f.sheet-room, c.gather-count.auto.sheet))

@@ -14,6 +14,6 @@ pub returns-after-strayed : goal.returns-after-strayed
 unfolding located_answer kind_of group_of
 returns-after-strayed c =
     elim c.match-strayed.branch [
-      | in-Same s ↦ rw (c.in-Err.is, s.kind-is, s.in-Same.is, c.from.ensures)
-      | in-Group s ↦ rw (c.in-Err.is, s.kind-is, s.in-Group.is, c.from.ensures)
+      | in-Same s ↦ rw (c.in-Err.is, s.kind-is, s.in-Same.is, c.from-in-Err.ensures, c.from.ensures)
+      | in-Group s ↦ rw (c.in-Err.is, s.kind-is, s.in-Group.is, c.from-in-Err.ensures, c.from.ensures)
     ]
