@@ -1,4 +1,4 @@
-// The brine statement over a batch of sheets (document 02, Q-3).
+// The brine statement over a batch of sheets (document 02, Q-3). Parameters are those of the C call, in its order.
 #![tactic(auto)]
 
 ghost use Rattle.std.specs.Prelude.{◌≡◌, length, ltb};

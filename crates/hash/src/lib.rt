@@ -1,5 +1,6 @@
 // Luffa over messages and kept hash records: digest, start, feed, finish, and longer output (document 01, "The kept hash record" and refusals 1
 // to 4; document 02, Q-2 and Q-7). Each call's outcome, its answer and the buffer that was lent for writing, is one function of its inputs.
+// Parameters are those of the C calls, in their order.
 #![tactic(auto)]
 
 ghost use Rattle.std.specs.Prelude.{◌≡◌, [], ◌∷◌, ◌-◌, ◌*◌, ◌<◌, ◌≤◌, length, get_or};

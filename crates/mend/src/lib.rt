@@ -62,6 +62,7 @@ pub fn mend(code: usize, sheet: &[u8], n: usize, marks: &mut [u32]) -> Result<Me
         first: None,
     };
     let last = n / 4;
+    // By number: k is the mark that is looked at, and the group after it.
     for k in 0..last {
         found = look(found, marks, k, c.state);
         c = rounds::absorb(w, c, &sheet[GROUP * k..GROUP * k + GROUP]);

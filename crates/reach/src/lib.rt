@@ -1,6 +1,6 @@
 // Who depends on a well (document 02, Q-10): a step for producers and one for injectors call each other while the hops left fall. Each is one pass
 // over the sheet. Producers that are reached have their byte, injectors their number in a set of 8 KiB until the search is over: a link says a
-// number, so nobody looks for the place of one.
+// number, so nobody looks for the place of one. Parameters of the call are those of C, in its order.
 #![tactic(auto)]
 
 ghost use Rattle.std.specs.Prelude.{◌≡◌, false, ◌<◌, ◌≤◌, length};

@@ -1,5 +1,5 @@
 // The sheet and its marks: build, change, append, drop (document 01, "Sheet and marks" and refusals 1, 2 and 5 to 11). Each call's outcome,
-// the answer and the buffers that were lent, is one function of its inputs.
+// the answer and the buffers that were lent, is one function of its inputs. Parameters are those of the C calls, in their order.
 #![tactic(auto)]
 
 ghost use Rattle.std.specs.Prelude.{◌≡◌, length};

@@ -1,4 +1,5 @@
 // Many changes in one save (document 02, Q-4): all are made or none, under one claim, with one check and one work over the sheet.
+// Parameters are those of the C call, in its order.
 #![tactic(auto)]
 
 ghost use Rattle.std.specs.Prelude.{◌≡◌, [], ◌∷◌, ◌+◌, ◌*◌, ◌≤◌, length};

@@ -1,5 +1,5 @@
 // Closing up struck wells (document 02, Q-11): the records that stand move down over those that are struck, each with its old place in a list,
-// under one claim, with one check and one work over the sheet.
+// under one claim, with one check and one work over the sheet. Parameters are those of the C call, in its order.
 #![tactic(auto)]
 
 ghost use Rattle.std.specs.Prelude.{◌≡◌, ◌-◌, ◌*◌, ◌≤◌, length, replicate, position};

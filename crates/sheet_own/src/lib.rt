@@ -1,5 +1,5 @@
 // Saves that bring the planner's own marks and count (document 02, Q-6): judged by these too, then made by the plain call; where it is stale, the
-// marks held are compared with the planner's own.
+// marks held are compared with the planner's own. Parameters are those of the C calls, in their order.
 #![tactic(auto)]
 
 ghost use Rattle.std.specs.Prelude.{◌≡◌, not, [], ◌∷◌, ◌+◌, ◌*◌, ◌≤◌, length, IfErr};
