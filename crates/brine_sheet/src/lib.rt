@@ -59,7 +59,8 @@ fn spare_of(w: Well, intake: u64) -> i64
     -excess
 }
 
-// The spares of a sound sheet's records, whose intakes are there already, and its part of the answer.
+// The spares of a sound sheet's records, whose intakes are there already, and its part of the answer. The lists are two, as C lends them, so it is
+// asked here, and of the two functions below, that they are as long as the sheet has records.
 fn settle(records: &[u8], intake: &[u64], spare: &mut [i64]) -> Statement
     requires { (length spare.old ≡ count_of records.now) × (sound (wells_of records.now) ≡ true) × (intake.now ≡ intakes (rows (wells_of records.now))) × (sum intake.now ≤ 102400000000) }
     ensures { (result ≡ statement_of (wells_of records.now ∷ [])) × (spare.new ≡ spares (rows (wells_of records.now))) }

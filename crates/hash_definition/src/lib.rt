@@ -25,14 +25,16 @@ pub struct Held {
     pub low: u64,
 }
 
-// What a call over a lent working state answers, by value: the refusal number or 0, and the working state as it is at the end.
+// What a call over a lent working state answers, by value: the refusal number or 0, and the working state as it is at the end. The definitions speak
+// of it; the code answers a Result.
 #[derive(Clone, Copy)]
 pub struct Lent {
     pub number: u32,
     pub kept: Kept,
 }
 
-// What a call for longer output answers: the refusal number or 0, and the rounds of the final stage (document 02, Q-2).
+// What a call for longer output answers: the refusal number or 0, and the rounds of the final stage (document 02, Q-2). C is answered with this
+// struct, so the number stands beside the rounds; the code below answers a Result.
 #[repr(C)]
 #[derive(Clone, Copy)]
 pub struct OutputAnswer {

@@ -67,7 +67,7 @@ pub enum Verdict {
     Fault(Rule, usize),
 }
 
-// The same for C: the refusal's number, the rule's, and the place.
+// The same for C, which is answered numbers alone: the refusal's, the rule's, and the place.
 #[repr(C)]
 #[derive(Clone, Copy, Debug, PartialEq, Eq)]
 pub struct ContentAnswer {

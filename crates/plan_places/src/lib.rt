@@ -6,7 +6,7 @@ ghost use Rattle.std.specs.Prelude.{◌≡◌, length, get_or};
 ghost use Rattle.plan_places.specs.Places.{placed};
 
 // The place of each of the sheet's first n records put at its number. What stands at other numbers stays. That the table is whole is said too:
-// a caller that was lent it can't see its length.
+// a caller that was lent it can't see its length. n stands beside the sheet, which may have more records.
 pub fn put(sheet: &[u8], n: usize, t: &mut [u16; 65536])
     ensures { (t.new ≡ placed sheet.now n t.old) × (length t.old ≡ 65536) }
 {

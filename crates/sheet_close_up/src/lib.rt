@@ -12,7 +12,7 @@ ghost use Rattle.sheet_work.specs.Answered.{answer_of};
 use sheet_definition::RECORD;
 use sheet_work::{Saved, Turned};
 
-// The first struck place.
+// The first struck place. n stands beside the sheet, here and below: the buffer that is lent may have room after its records.
 fn first_struck(sheet: &[u8], n: usize) -> Option<usize>
     requires { record_bytes * n ≤ length sheet.now }
     ensures { result ≡ position all_zero (cut n sheet.now) }
