@@ -15,15 +15,13 @@ use Rattle.hash_definition.specs.declared.Held.{Held}
 use Rattle.hash_definition.specs.declared.Kept.{Kept}
 use Rattle.hash_definition.specs.Record.{record_length, decode, encode, held_of, count_of, bytes_fed, pending_count, well_formed, fed_bits}
 use Rattle.hash_definition.specs.Calls.{odd_refusal, long_refusal, record_refusal, feed_refusals}
+use Rattle.hash_record.specs.declared.Glanced.{Glanced}
 use Rattle.hash_record.specs.Reading.{waiting_of, glance_of, held_written}
 use Rattle.hash_pieces.specs.Short.{short_of}
-use Rattle.std.specs.Prelude.{Option, Some}
-use Rattle.std.specs.Bool.{then_some}
-use Rattle.std.specs.Option.{ok_or}
-use Rattle.std.proofs.lemmas.Option.{none-some, some_pair_parts}
-use Rattle.refusals.specs.declared.Refusal.TheVariants.{Record}
-use Rattle.refusals.specs.Number.{number_of}
-use Rattle.refusals.proofs.Judged.{passed as past}
+use Rattle.std.specs.Prelude.{Result, IsErrAnd}
+use Rattle.refusals.specs.declared.Refusal.{Refusal}
+use Rattle.refusals.specs.Number.{number, number_of}
+use Rattle.refusals.proofs.Judged.{refused, passed as past}
 use Rattle.hash_definition.proofs.Formed.{formed}
 use Rattle.hash_definition.proofs.Records.{encode-decode}
 use Rattle.hash_definition.proofs.Ending.{low_pending, pending_lt}
@@ -41,24 +39,6 @@ pub waiting_le : (b : List ℕ) → waiting_of b ≤ 32
 unfolding waiting_of
 waiting_le b = waiting_by (decode b) (eqb (length b) record_length)
 
--- 3 is judged at a glance
-pub by_form : (b : List ℕ) (o : Option (ℕ × Held)) → o ≡ glance_of b → number_of (ok_or o Record) ≡ first_of (record_refusal b ∷ [])
-unfolding glance_of record_refusal first_of pick
-by_form b o e = rw e (by_test (well_formed b) _)
-  where
-    by_test : (t : Bool) (x : ℕ × Held) → number_of (ok_or (then_some t x) Record) ≡ first_of ((RECORD, not t) ∷ [])
-    by_test true x = refl
-    by_test false x = refl
-
--- and what it shows is the record's
-pub glanced : (b : List ℕ) (code : ℕ) (h : Held) → glance_of b ≡ Some (code, h) → ((decode b).code ≡ code) × (held_of (decode b) ≡ h)
-unfolding glance_of
-glanced b code h e = by_test (well_formed b) _ e
-  where
-    by_test : (t : Bool) (x : ℕ × Held) → then_some t x ≡ Some (code, h) → (x.0 ≡ code) × (x.1 ≡ h)
-    by_test true x f = some_pair_parts _ _ _ _ f
-    by_test false x f = absurd (none-some _ f)
-
 module _ (b piece : List ℕ) (odd : ℕ) (s : whole_bytes odd (length piece) < 32 - waiting_of b) where
   abbrev k : Kept
   k = decode b
@@ -71,6 +51,10 @@ module _ (b piece : List ℕ) (odd : ℕ) (s : whole_bytes odd (length piece) < 
       by_test true e h = eqb-true (length b) record_length e
       by_test false e h = absurd (unfold pick in omega arith)
 
+  pub glanced : glance_of b ≡ record { code = k.code; held = held_of k; well = well_formed b }
+  unfolding glance_of pick
+  glanced = rw (eq-eqb (length b) record_length has-length)
+
   waits : waiting_of b ≡ pending_count k
   unfolding waiting_of pick
   waits = rw (eq-eqb (length b) record_length has-length)
@@ -78,14 +62,18 @@ module _ (b piece : List ℕ) (odd : ℕ) (s : whole_bytes odd (length piece) < 
   short : whole_bytes odd (length piece) < 32 - k.low % 32
   short = rw (low_pending k) (rw waits at s)
 
+  -- 3 refuses
+  pub by_form : {g : Glanced} (r : Result (Unit {0}) Refusal) (e : Refusal) → g ≡ glance_of b → IsErrAnd r (λ y. y ≡ e) → number e ≡ first_of ((RECORD, not g.well) ∷ [])
+      → number_of r ≡ first_of (feed_refusals b odd (length piece))
+  unfolding feed_refusals record_refusal
+  by_form r e q h f = refused r e (_ ∷ []) (_ ∷ _ ∷ []) h (rw (q, glanced) at f)
+
   -- past it the piece decides
-  pub by_piece : {x : ℕ} (code : ℕ) (h : Held) → glance_of b ≡ Some (code, h) → 0 ≡ first_of (record_refusal b ∷ [])
-      → x ≡ first_of (odd_refusal h.odd odd (length piece) ∷ long_refusal code (count_of h.high h.low) odd (length piece) ∷ [])
+  pub by_piece : {g : Glanced} {x : ℕ} → g ≡ glance_of b → 0 ≡ first_of ((RECORD, not g.well) ∷ [])
+      → x ≡ first_of (odd_refusal g.held.odd odd (length piece) ∷ long_refusal g.code (count_of g.held.high g.held.low) odd (length piece) ∷ [])
       → x ≡ first_of (feed_refusals b odd (length piece))
   unfolding feed_refusals record_refusal bytes_fed held_of odd_refusal long_refusal
-  by_piece code h e f p =
-      let g = glanced b code h e in
-      (rw (sym g.0, sym g.1) at p) ∙ sym (past (_ ∷ []) (_ ∷ _ ∷ []) (omega arith) f)
+  by_piece e f p = (rw (e, glanced) at p) ∙ sym (past (_ ∷ []) (_ ∷ _ ∷ []) (omega arith) (rw (e, glanced) at f))
 
   module _ (bytes : (i : ℕ) → get_or b i 0 < 256) (n : first_of (feed_refusals b odd (length piece)) ≡ 0) where
     -- no refusal meets the piece

@@ -104,8 +104,10 @@ fn feed_short(record: &mut [u8], piece: &[u8], odd: usize) -> Result<(), Refusal
     requires { whole_bytes odd (length piece.now) < 32 - waiting_of «record».old }
     ensures { record { number = number_of result; buffer = «record».new } ≡ feed_bits_outcome «record».old piece.now odd }
 {
-    let (code, h) = hash_record::glance(record).ok_or(Refusal::Record)?;
-    hash_kept::piece(code, h, odd, piece.len())?;
+    let g = hash_record::glance(record);
+    let h = g.held;
+    Refusal::Record.when(!g.well)?;
+    hash_kept::piece(g.code, h, odd, piece.len())?;
     hash_record::put_held(hash_pieces::short_fed(h, piece, odd), record);
     Ok(())
 }

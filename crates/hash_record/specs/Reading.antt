@@ -1,7 +1,6 @@
 -- A record as it is read once for both its judging and its use, glanced at where its state isn't needed, and written where it has its length:
 -- document 01, "The kept hash record", and document 02, Q-7, "216 bytes".
-use Rattle.std.specs.Prelude.{ℕ, ◌%◌, Option, Bool, ◌&&◌, List, [], ◌∷◌, ◌++◌, eqb, length, take, drop, replicate}
-use Rattle.std.specs.Bool.{then_some}
+use Rattle.std.specs.Prelude.{ℕ, ◌%◌, Bool, false, ◌&&◌, List, [], ◌∷◌, ◌++◌, eqb, length, take, drop, replicate}
 use Rattle.definition.specs.State.{state_of}
 use Rattle.definition.specs.Word.{bytes_of_all}
 use Rattle.definition.specs.Refusal.{pick}
@@ -9,6 +8,7 @@ use Rattle.octets.specs.Total.{write_at}
 use Rattle.hash_definition.specs.declared.Kept.{Kept}
 use Rattle.hash_definition.specs.declared.Held.{Held}
 use Rattle.hash_definition.specs.Record.{record_length, pending_at, count_at, count_words, all_zero, encode, decode, held_of, pending_count, well_formed}
+use Rattle.hash_record.specs.declared.Glanced.{Glanced}
 
 -- "this length" and "these zeros" after code and odd bits: what a record's form says before what it holds
 unfoldable pub framed : List ℕ → Bool
@@ -25,9 +25,12 @@ reading b = pick (framed b) (decode b) nothing
 unfoldable pub waiting_of : List ℕ → ℕ
 waiting_of b = pick (eqb (length b) record_length) (pending_count (decode b)) 32
 
--- the code and what is held beside code and state, of a record that is well formed
-unfoldable pub glance_of : List ℕ → Option (ℕ × Held)
-glance_of b = then_some (well_formed b) ((decode b).code, held_of (decode b))
+-- the code, what is held beside code and state, and whether the record is well formed
+unfoldable pub glance_of : List ℕ → Glanced
+glance_of b =
+    pick (eqb (length b) record_length)
+    (record { code = (decode b).code; held = held_of (decode b); well = well_formed b })
+    (record { code = 0; held = held_of nothing; well = false })
 
 -- what is held beside code and state, written where it stands
 unfoldable pub held_written : Held → List ℕ → List ℕ

@@ -143,22 +143,36 @@ pub fn waiting(b: &[u8]) -> usize
     }
 }
 
-// A record read but for its state: its code, and what else it holds; nothing where it isn't well formed. All tests are made, without an early
-// stop: a record is well formed nearly always, and then a stop saves nothing.
-pub fn glance(b: &[u8]) -> Option<(usize, Held)>
-    ensures { result ≡ glance_of b.now }
-{
-    let Ok(r) = <&[u8; LENGTH]>::try_from(b) else {
-        return None;
-    };
-    let code = usize::from(r[0]);
-    let held = held_in(r);
-    let well = reserved_zero(r) & (hash_kept::well_held(code, held) & unused_zero(r));
-    well.then_some((code, held))
+// A record read but for its state: its code, what else it holds, and whether it is well formed. Nothing of a buffer of another length.
+#[derive(Clone, Copy)]
+pub struct Glanced {
+    pub code: usize,
+    pub held: Held,
+    pub well: bool,
 }
 
-// What a piece that completes no block alters, written into a record; where there is no room for a part it isn't written. `as`:
-// what is cut off a number, a byte or half of its words, has no From.
+pub fn glance(b: &[u8]) -> Glanced
+    ensures { result ≡ glance_of b.now }
+{
+    match <&[u8; LENGTH]>::try_from(b) {
+        Ok(r) => {
+            let code = usize::from(r[0]);
+            let held = held_in(r);
+            Glanced {
+                code,
+                held,
+                well: reserved_zero(r) & (hash_kept::well_held(code, held) & unused_zero(r)),
+            }
+        }
+        Err(_) => Glanced {
+            code: 0,
+            held: hash_kept::held(nothing()),
+            well: false,
+        },
+    }
+}
+
+// What a piece that completes no block alters, written into a record; where there is no room for a part it isn't written.
 pub fn put_held(h: Held, b: &mut [u8])
     ensures { b.new ≡ held_written h b.old }
 {
