@@ -7,7 +7,7 @@ pub const SHEETS_MOST: usize = 64;
 pub const KILOGRAMS: u64 = 1000;
 
 // The refusal's number, and over a batch: sheets sound, sheets faulted, total intake in kilograms a day, injectors overloaded. C is answered with
-// this struct, so the number stands beside the figures.
+// this struct, so the number stands beside the figures; a Result would need a second one of the same four figures.
 #[repr(C)]
 #[derive(Clone, Copy, Default)]
 pub struct Statement {

@@ -30,7 +30,8 @@ pub fn count(high: u64, low: u64) -> u128
     u128::from(high) * WORD + u128::from(low)
 }
 
-// And the two words of a count, the high one first. `as`, here and below: a half that is cut off has no From, nor has a usize of or to more bits.
+// And the two words of a count, the high one first. `as`, here and below: no From cuts a half off, and none leads from a
+// usize to more bits or back.
 pub fn two_words(count: u128) -> (u64, u64)
     ensures { result ≡ (count / 2 ^ 64, count % 2 ^ 64) }
 {

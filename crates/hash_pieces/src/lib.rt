@@ -1,4 +1,4 @@
-// A piece fed to what a kept hash record holds, by value (document 01, "The kept hash record"; document 02, Q-7): judged, pasted behind the
+// A piece fed to what a kept hash record holds, where it stands (document 01, "The kept hash record"; document 02, Q-7): judged, pasted behind the
 // pending bytes, or absorbed where it lies. A piece that completes no block alters the pending bytes, the odd bits and the count alone.
 #![tactic(auto)]
 

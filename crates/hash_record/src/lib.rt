@@ -143,7 +143,8 @@ pub fn waiting(b: &[u8]) -> usize
     }
 }
 
-// A record read but for its state: its code, what else it holds, and whether it is well formed. Nothing of a buffer of another length.
+// A record read but for its state: its code, what else it holds, and whether it is well formed. Nothing of a buffer of another length. No Option:
+// what a record that isn't well formed holds is told too, as docs/STATEMENTS.md has it.
 #[derive(Clone, Copy)]
 pub struct Glanced {
     pub code: usize,

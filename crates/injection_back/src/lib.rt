@@ -54,7 +54,7 @@ fn unring<const N: usize>(inverse: u32, y: [Block; N]) -> [Block; N]
 {
     let mut e = y;
     let mut last = times(inverse, ring_sum(&y));
-    // By place: a zip of both lists from their ends would say no more.
+    // By place: what is written through a zip with iter_mut isn't known to a proof.
     for j in (0..N).rev() {
         e[j] = last;
         last = y[j] ^ double(last);

@@ -43,8 +43,8 @@ fn digit(n: u8) -> u8
     b'a' + (n - 10)
 }
 
-// The decimal digits of a number at the end of 20 bytes, and the place where they begin. By hand: a crate that prints numbers would be the only
-// one here that isn't the library's own. `as`: a u8 has no From of a u64; both digits are below 10.
+// The decimal digits of a number at the end of 20 bytes, and the place where they begin. By hand: Display promises
+// nothing of the text. `as`: a u8 has no From of a u64; both digits are below 10.
 fn decimal(n: u64, t: &mut [u8]) -> usize
     requires { length t.old ≡ 20 }
     ensures { (result ≤ 20) × (drop result t.new ≡ decimal_of n) }

@@ -59,7 +59,8 @@ impl From<Rule> for u64 {
 }
 
 // What the check of content says: a refusal by its number, that the sheet is sound, or the rule broken with the place beside it. These are three
-// outcomes, so no Result: a faulted sheet is an answer, and says_sound tells it from the others.
+// outcomes, so no Result: a faulted sheet is an answer, and says_sound tells it from the others. The refusal stands by its number, as Q-1's
+// definition and theorems have it.
 #[derive(Clone, Copy, Debug, PartialEq, Eq)]
 pub enum Verdict {
     Refused(u64),

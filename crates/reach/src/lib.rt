@@ -76,7 +76,7 @@ fn take_linked(records: &[u8], reached: &[u8], taken: &mut [u64; 1024])
     requires { Searched records.now (length reached.now) }
     ensures { has taken.new ≡ plus_linked reached.now (wells (length reached.now) records.now) (has taken.old) }
 {
-    // Over the places: with `enumerate` a search from a producer takes about 4 in 100 longer.
+    // Over the places: the record is read by its place too, so an enumerate would say no more.
     for i in 0..reached.len() {
         if reached[i] == 1 {
             let w = plan_record::read(records, i);
