@@ -53,12 +53,15 @@ pub fn first_word(t: &[u8]) -> u32
     }
 }
 
-// Bytes, one after the other, from place i on; nothing where there is no room for them.
+// Bytes, one after the other, from place i on; nothing where there is no room for them. By place: a `copy_from_slice` of a length that is known
+// only when it runs has the archive ask for `memmove` from outside.
 pub fn put_bytes(b: &mut [u8], i: usize, t: &[u8])
     ensures { b.new ≡ write_at i t.now b.old }
 {
     if i <= b.len() && t.len() <= b.len() - i {
-        b[i..i + t.len()].copy_from_slice(t);
+        for (j, x) in t.iter().enumerate() {
+            b[i + j] = *x;
+        }
     }
 }
 
