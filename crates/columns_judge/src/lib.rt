@@ -19,7 +19,9 @@ pub fn lengths(one: usize, due: usize, other: usize, expected: usize) -> Result<
 pub fn refusal(code: usize, dump: usize, other: usize, due: usize) -> Result<(), Refusal>
     ensures { number_of result ≡ first_of (width_refusal code ∷ columns_refusal dump (32 * blocks_at code) other due ∷ []) }
 {
-    refusals::known_code(code)?;
     let n = blocks::count(codes::width(code));
-    lengths(dump, 32 * n, other, due)
+    refusals::in_turn(
+        refusals::known_code(code),
+        lengths(dump, 32 * n, other, due),
+    )
 }

@@ -7,7 +7,7 @@ ghost use Rattle.std.specs.Prelude.{◌≡◌, [], ◌∷◌, ◌-◌, ◌*◌, 
 ghost use Rattle.definition.specs.Padding.{whole_bytes, closing_byte, bits_in};
 ghost use Rattle.definition.specs.Luffa.{luffa_output};
 ghost use Rattle.definition.specs.Buffer.{overwrite};
-ghost use Rattle.definition.specs.Refusal.{first_of, out_refusal};
+ghost use Rattle.definition.specs.Refusal.{first_of, when_done, out_refusal};
 ghost use Rattle.refusals.specs.Number.{number_of};
 ghost use Rattle.hash_kept.specs.Answer.{answer_of};
 ghost use Rattle.hash_record.specs.Reading.{waiting_of};
@@ -27,15 +27,17 @@ fn closing(message: &[u8], odd: usize, n: usize) -> u8
     rounds::last::CLOSING
 }
 
-// A number of words of a message that may end with odd bits, and the rounds that they took; 2, 17 and 4 in turn refuse the call.
+// A number of words of a message that may end with odd bits, and the rounds that they took; what was judged before, and then 2, 17 and 4 in turn
+// refuse the call.
 fn put_out(
+    before: Result<(), Refusal>,
     code: usize,
     words: usize,
     message: &[u8],
     odd: usize,
     out: &mut [u8],
 ) -> Result<u64, Refusal>
-    ensures { record { answer = answer_of result; buffer = out.new } ≡ output_by (first_of (out_refusal (4 * words) (length out.old) ∷ odd_refusal 0 odd (length message.now) ∷ long_refusal code 0 odd (length message.now) ∷ [])) words (overwrite (luffa_output code words (bits_in message.now odd)) out.old) out.old }
+    ensures { record { answer = answer_of result; buffer = out.new } ≡ output_by (when_done (number_of before) (first_of (out_refusal (4 * words) (length out.old) ∷ odd_refusal 0 odd (length message.now) ∷ long_refusal code 0 odd (length message.now) ∷ [])) (number_of before)) words (overwrite (luffa_output code words (bits_in message.now odd)) out.old) out.old }
 {
     let none = Held {
         odd: 0,
@@ -43,8 +45,11 @@ fn put_out(
         high: 0,
         low: 0,
     };
-    refusals::room(words, out.len())?;
-    hash_kept::piece(code, none, odd, message.len())?;
+    let size = refusals::in_turn(
+        refusals::room(words, out.len()),
+        hash_kept::piece(code, none, odd, message.len()),
+    );
+    refusals::in_turn(before, size)?;
     let w = codes::width(code);
     let n = hash_kept::whole(odd, message.len());
     let byte = closing(message, odd, n);
@@ -55,8 +60,14 @@ fn put_out(
 pub fn digest_bits(code: usize, message: &[u8], odd: usize, out: &mut [u8]) -> Result<(), Refusal>
     ensures { record { number = number_of result; buffer = out.new } ≡ digest_bits_outcome code message.now odd out.old }
 {
-    refusals::known_code(code)?;
-    put_out(code, codes::words(code), message, odd, out)?;
+    put_out(
+        refusals::known_code(code),
+        code,
+        codes::words(code),
+        message,
+        odd,
+        out,
+    )?;
     Ok(())
 }
 
@@ -77,9 +88,8 @@ pub fn output_bits(
 ) -> Result<u64, Refusal>
     ensures { record { answer = answer_of result; buffer = out.new } ≡ output_bits_outcome code words message.now odd out.old }
 {
-    refusals::known_code(code)?;
-    hash_kept::words(words)?;
-    put_out(code, words, message, odd, out)
+    let before = refusals::in_turn(refusals::known_code(code), hash_kept::words(words));
+    put_out(before, code, words, message, odd, out)
 }
 
 // The same of a message of whole bytes.
@@ -117,8 +127,10 @@ fn feed_whole(record: &mut [u8], piece: &[u8], odd: usize) -> Result<(), Refusal
     ensures { record { number = number_of result; buffer = «record».new } ≡ feed_bits_outcome «record».old piece.now odd }
 {
     let mut k = hash_record::read(record);
-    hash_pieces::feed(&mut k, piece, odd)?;
-    hash_record::encode(k, record);
+    match hash_pieces::feed(&mut k, piece, odd) {
+        Ok(()) => hash_record::encode(k, record),
+        Err(refusal) => return Err(refusal),
+    }
     Ok(())
 }
 

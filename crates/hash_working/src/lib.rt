@@ -41,8 +41,7 @@ pub fn start(code: usize, hash: &mut Kept) -> Result<(), Refusal>
 fn put_out(k: Kept, words: usize, out: &mut [u8]) -> Result<u64, Refusal>
     ensures { record { answer = answer_of result; buffer = out.new } ≡ output_by (first_of (kept_refusal k ∷ out_refusal (4 * words) (length out.old) ∷ [])) words (overwrite (output_from k words) out.old) out.old }
 {
-    hash_kept::form(k)?;
-    refusals::room(words, out.len())?;
+    refusals::in_turn(hash_kept::form(k), refusals::room(words, out.len()))?;
     let p = k.pending;
     let pos = (k.low % 32) as usize;
     let closing = rounds::last::closing(k.odd, p[pos]);

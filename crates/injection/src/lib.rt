@@ -75,7 +75,8 @@ pub fn inject(w: Width, s: State, m: Block) -> State
         Width::W5 => {
             let e = spread(s);
             let x = twice(e) ^ after(e);
-            twice(x) ^ before(x, x.h4) ^ multiples(m)
+            let ms = multiples(m);
+            twice(x) ^ before(x, x.h4) ^ ms
         }
     }
 }

@@ -79,8 +79,10 @@ pub fn build(l: Lengths) -> Result<(), Refusal>
 {
     refusals::known_code(l.code)?;
     refusals::room(codes::words(l.code), l.out_length)?;
-    has_records(l.n, l.sheet_length)?;
-    has_marks(l.n, l.marks_length)
+    refusals::in_turn(
+        has_records(l.n, l.sheet_length),
+        has_marks(l.n, l.marks_length),
+    )
 }
 
 // The refusals of a save's new records, so many, and of its claim.

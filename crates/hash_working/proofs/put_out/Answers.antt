@@ -17,11 +17,10 @@ use Rattle.definition.specs.Buffer.{overwrite}
 use Rattle.definition.specs.Final.{final_rounds}
 use Rattle.definition.specs.State.{blocks_in}
 use Rattle.definition.specs.Luffa.{output_of}
-use Rattle.definition.specs.Refusal.{OUT, RECORD, pick, first_of, condition_of, out_refusal}
+use Rattle.definition.specs.Refusal.{OUT, RECORD, pick, first_of, condition_of, out_refusal, when_done}
 use Rattle.hash_definition.specs.Record.{pending_bytes, output_from}
 use Rattle.hash_definition.specs.Lent.{kept_refusal}
-use Rattle.definition.proofs.Refusals.{fails}
-use Rattle.refusals.proofs.Judged.{passed}
+use Rattle.definition.proofs.Refusals.{fails, then_judged}
 use Rattle.hash_definition.proofs.Feeding.{well_kept_lem}
 use Rattle.hash_definition.proofs.Ending.{low_pending, output_closed}
 use Rattle.hash_definition.proofs.Refused.{output-accepted}
@@ -29,19 +28,16 @@ use Rattle.hash_kept.proofs.Answer.{output_on}
 use Rattle.squeeze.proofs.Room.{all_words}
 use Rattle.hash_working.proofs.put_out.Goals as goal
 
-pub returns-in_err-form : goal.returns-in_err-form
+-- 3 and then 2
+by_both : (k : Kept) (words n : ℕ) {form room number : ℕ} → number ≡ when_done form room form → form ≡ first_of (kept_refusal k ∷ [])
+    → room ≡ first_of (out_refusal (4 * words) n ∷ []) → number ≡ first_of (kept_refusal k ∷ out_refusal (4 * words) n ∷ [])
 unfolding kept_refusal
-returns-in_err-form c = output_on _ _ (_ ∷ []) (_ ∷ []) c.from_residual.ensures.1 c.in_err-form.ensures _ _ _
+by_both k words n = then_judged (_ ∷ []) (_ ∷ []) (omega arith)
 
--- past 3 the output buffer decides
-by_room : (k : Kept) (words n : ℕ) {number : ℕ} → 0 ≡ first_of (kept_refusal k ∷ []) → number ≡ first_of (out_refusal (4 * words) n ∷ []) → number ≡ first_of (kept_refusal k ∷ out_refusal (4 * words) n ∷ [])
-unfolding kept_refusal
-by_room k words n e f = f ∙ sym (passed (_ ∷ []) (_ ∷ []) (omega arith) e)
-
-pub returns-in_err-room : goal.returns-in_err-room
-returns-in_err-room c =
-    let f = by_room c.args.k c.args.words _ c.in_ok-form.ensures c.in_err-room.ensures in
-    output_on _ _ (_ ∷ _ ∷ []) [] c.from_residual-in_err-room.ensures.1 f _ _ _
+pub returns-in_err-in_turn : goal.returns-in_err-in_turn
+returns-in_err-in_turn c =
+    let f = by_both c.args.k c.args.words _ c.in_err-in_turn.ensures c.form.ensures c.room.ensures in
+    output_on _ _ (_ ∷ _ ∷ []) [] c.from_residual.ensures.1 f _ _ _
 
 -- past the judgements the output buffer has room, and the odd bits are seven at most
 module _ (k : Kept) (words n : ℕ) (none : 0 ≡ first_of (kept_refusal k ∷ out_refusal (4 * words) n ∷ [])) where
@@ -66,7 +62,7 @@ returns c =
     let a = c.args in
     let k = a.k in
     let out = a.out.now in
-    let none = by_room k a.words _ c.in_ok-form.ensures c.in_ok-room.ensures in
+    let none = by_both k a.words _ c.in_ok-in_turn.ensures c.form.ensures c.room.ensures in
     let m = all_words a.words out (room k a.words _ none) in
     -- an array has its length
     let pending : length k.pending ≡ 32 = search rules in

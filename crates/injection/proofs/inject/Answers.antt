@@ -37,7 +37,7 @@ returns-in-W5 c =
     rw (c.in-W5.is, ← forms-inject W5 (blocks_in W5 c.args.s) c.args.m refl)
     (simp (
       c.bitxor-in-W5-2.ensures,
-      c.multiples-in-W5.ensures,
+      c.multiples-ms.ensures,
       c.bitxor-in-W5.ensures,
       c.before-in-W5.ensures,
       c.twice-in-W5-2.ensures,
