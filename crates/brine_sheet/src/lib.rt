@@ -102,6 +102,13 @@ fn page(
     requires { (count_of records.now ≤ 1024) × (length intake.old ≡ count_of records.now) × (length spare.old ≡ count_of records.now) }
     ensures { Stated (wells_of records.now) result intake.new spare.new × (places.new ≡ placed_if (sound (wells_of records.now)) records.now (count_of records.now) places.old) }
 {
+    // An empty sheet is sound and has no rows: a batch may have many.
+    if records.is_empty() {
+        return Statement {
+            sound: 1,
+            ..Statement::default()
+        };
+    }
     intake.fill(0);
     spare.fill(0);
     if plan::says_sound(plan::check(records, records.len() / RECORD)) {

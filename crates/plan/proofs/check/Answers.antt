@@ -1,6 +1,6 @@
 -- `plan::check` meets its contract: refused, or the first fault by a set that has the sheet's injectors.
 -- Assumes nothing.
-use mathlib.Core.Path.{sym, ap, ◌∙◌, fun_ext}
+use mathlib.Core.Path.{refl, sym, ap, ◌∙◌, fun_ext}
 use mathlib.Core.Bool.{or-false}
 use Prim.Native.Nat.{◌*◌}
 use native.Mathlib.Omega.{arith}
@@ -9,6 +9,8 @@ use Rattle.definition.specs.Refusal.{when_done}
 use Rattle.definition.proofs.Refusals.{not_done}
 use Rattle.refusals.proofs.Judged.{not_zero}
 use Rattle.plan_definition.specs.declared.Verdict.TheVariants.{Refused}
+use Rattle.sheet_definition.specs.Sheet.{cut}
+use Rattle.plan_definition.specs.Well.{wells_from, wells}
 use Rattle.plan_definition.specs.Check.{first_fault, check_refusals, verdict}
 use Rattle.plan_definition.proofs.Verdicts.{room}
 use Rattle.plan_numbers.proofs.Numbers.{none_has}
@@ -21,6 +23,11 @@ unfolding verdict check_refusals
 returns-in-Err c =
     ap Refused (c.from-in-Err.ensures ∙ c.from.ensures ∙ c.in-Err.ensures)
     ∙ sym (not_done _ _ _ (λ z. not_zero c.in-Err.refusal (c.in-Err.ensures ∙ z)))
+
+-- without records nothing is at fault
+pub returns-then-n-eq0 : goal.returns-then-n-eq0
+unfolding verdict check_refusals when_done first_fault wells wells_from cut
+returns-then-n-eq0 c = rw (sym c.in_default.ensures, c.if-n-eq0.true) refl
 
 -- an empty set with the sheet's injectors has these alone
 pub first_broken-requires : goal.first_broken-requires
