@@ -122,7 +122,7 @@ fn feed_short(record: &mut [u8], piece: &[u8], odd: usize) -> Result<(), Refusal
     Ok(())
 }
 
-// Any piece: the record is read, fed by value and written.
+// Any piece: the record is read, fed by value and written. A match and no `?`, so that an edit can answer another refusal.
 fn feed_whole(record: &mut [u8], piece: &[u8], odd: usize) -> Result<(), Refusal>
     ensures { record { number = number_of result; buffer = «record».new } ≡ feed_bits_outcome «record».old piece.now odd }
 {

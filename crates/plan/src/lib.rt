@@ -50,7 +50,7 @@ pub fn check(sheet: &[u8], n: usize) -> Verdict
     if let Err(refusal) = sheet_judge::has_records(n, sheet.len()) {
         return Verdict::Refused(u64::from(u32::from(refusal)));
     }
-    // Without records no set is laid out: a batch may have many empty sheets.
+    // Without records no set is laid out.
     if n == 0 {
         return Verdict::Sound;
     }
@@ -60,7 +60,7 @@ pub fn check(sheet: &[u8], n: usize) -> Verdict
     first_broken(records, &injectors)
 }
 
-// Whether the check of content found no fault.
+// Whether the check of content found no fault. Arm by arm, so that an edit can exchange a faulted sheet's.
 pub fn says_sound(v: Verdict) -> bool
     ensures { result ≡ says_sound v }
 {

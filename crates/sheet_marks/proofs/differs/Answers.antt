@@ -5,6 +5,8 @@ use mathlib.Core.Bool.{not, false, ◌||◌}
 use Prim.Native.Nat.{ℕ}
 use borrow.Author.Rules.{rules}
 use borrow.Author.Tests.{ne_eqb, tests}
+use native.Mathlib.Omega.{arith}
+use lib.Seq.{take-length}
 use lib.Dec.{eqb}
 use Rattle.std.proofs.lemmas.Iterator.{YieldsList-from_slice, YieldsList-from_zip}
 use Rattle.std.proofs.lemmas.Iterator.Consumers.{fold_from_yields_List}
@@ -20,6 +22,6 @@ pub returns-else-mark-ne-MARK : goal.returns-else-mark-ne-MARK
 returns-else-mark-ne-MARK c =
     let a = c.args in
     fold_from_yields_List _ (λ o (p : ℕ × ℕ). o || not (eqb p.0 p.1)) false _ c.fold.ensures.ran
-    (YieldsList-from_zip (YieldsList-from_slice a.mark.now cc) (YieldsList-from_slice a.words.now cc))
+    (YieldsList-from_zip (YieldsList-from_slice a.mark.now (grind (arith, take-length a.mark.now, c.if-mark-ne-MARK.false))) (YieldsList-from_slice a.words.now cc))
     (λ o x r f k. search (rules, tests))
     ∙ differing false a.mark.now a.words.now (c.if-mark-ne-MARK.false ∙ sym c.told-words)

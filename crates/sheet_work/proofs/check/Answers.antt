@@ -1,6 +1,9 @@
 -- `sheet_work::check` meets its contract: the claim against the digest that the work leaves in front of a buffer.
 -- Assumes nothing.
-use mathlib.Core.Path.{◌∙◌}
+use mathlib.Core.Path.{◌≡◌, ◌∙◌}
+use lib.Seq.{take-length}
+use lib.Dec.{eqb}
+use Rattle.std.specs.List.{starts_with}
 use native.Mathlib.Nat.{zero-add}
 use native.Mathlib.Omega.{arith}
 use Rattle.definition.specs.Luffa.{bytes_at}
@@ -24,7 +27,8 @@ returns-then-starts_with c =
     let a = c.args in
     let w : World = record { code = a.code; n = a.n; sheet = a.sheet.now; marks = a.marks.now } in
     let e = c.work_on-rounds.ensures in
-    let d = others a.code a.n _ a.sheet.now a.marks.now a.claim.now _ _ c.requires.3 e.out_after c.starts_with.ensures.value in record {
+    let begins : c.starts_with.result ≡ starts_with eqb c.work_on-rounds.new.out a.claim.now = grind (arith, take-length a.claim.now, c.starts_with.ensures.value) in
+    let d = others a.code a.n _ a.sheet.now a.marks.now a.claim.now _ _ c.requires.3 e.out_after begins in record {
       value = rw (d, c.if-starts_with.true, e.value, zero-add (checked w).rounds);
       marks_unchanged = e.marks_after ∙ check_leaves a.code a.n a.sheet.now a.marks.now;
     }
@@ -35,7 +39,8 @@ returns c =
     let a = c.args in
     let w : World = record { code = a.code; n = a.n; sheet = a.sheet.now; marks = a.marks.now } in
     let e = c.work_on-rounds.ensures in
-    let d = others a.code a.n _ a.sheet.now a.marks.now a.claim.now _ _ c.requires.3 e.out_after c.starts_with.ensures.value in record {
+    let begins : c.starts_with.result ≡ starts_with eqb c.work_on-rounds.new.out a.claim.now = grind (arith, take-length a.claim.now, c.starts_with.ensures.value) in
+    let d = others a.code a.n _ a.sheet.now a.marks.now a.claim.now _ _ c.requires.3 e.out_after begins in record {
       value = rw (d, c.if-starts_with.false, e.value, zero-add (checked w).rounds);
       marks_unchanged = e.marks_after ∙ check_leaves a.code a.n a.sheet.now a.marks.now;
     }
